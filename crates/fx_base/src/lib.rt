@@ -1,0 +1,19 @@
+//! The names, the lists and the sets that every other crate speaks of.
+#![tactic(auto)]
+
+mod copied;
+mod lists;
+mod memory;
+mod names;
+mod seq;
+mod spot;
+
+pub use copied::Copied;
+pub use lists::{Bytes, Elems, Pairs, Seats, Shares, Stamps};
+pub use memory::NoMemory;
+pub use names::{CallNo, Epoch, GroupId, How, Ident, MemberId, Op, Place, Proc, Role, Stamp};
+pub use seq::Seq;
+pub use spot::Spot;
+
+#[cfg(test)]
+mod tests;

@@ -1,0 +1,20 @@
+use crate::names::{Ident, Proc, Stamp};
+use crate::seq::Seq;
+
+/// Bytes, as of a text or a packed snapshot.
+pub type Bytes = Seq<u8>;
+
+/// The elements of an array.
+pub type Elems = Seq<i64>;
+
+/// Time stamps.
+pub type Stamps = Seq<Stamp>;
+
+/// Pairs of a first and a last index.
+pub type Pairs = Seq<(u32, u32)>;
+
+/// Places, each with the bytes that it gives.
+pub type Shares = Seq<(u8, Bytes)>;
+
+/// Identities, each with the process that has it.
+pub type Seats = Seq<(Ident, Proc)>;
