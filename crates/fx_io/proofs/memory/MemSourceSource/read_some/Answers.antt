@@ -1,0 +1,16 @@
+use Rattle.std.proofs.Common.{ℕ, List, arith, take, drop, ap, ◌∙◌}
+use Rattle.std.proofs.lemmas.Grind.{common_steps}
+use Rattle.fx_io.specs.Held.{HeldSource}
+use Rattle.fx_io.proofs.Joined.{front_gone}
+use Rattle.fx_io.proofs.memory.MemSourceSource.read_some.Goals as goal
+
+pub returns-clause-content : goal.returns-clause-content
+returns-clause-content c =
+    let n = c.copy_front-count.result in
+    let rest = c.split_at.ensures.back ∙ ap (λ (l : List ℕ). drop c.self.inside.at l) c.as_slice-2.ensures in (
+      grind (arith, common_steps),
+      grind (arith, common_steps),
+      front_gone c.self.inside.held (take n c.copy_front-count.new.into) c.args.self.now.left c.self.inside.at n
+          (ap (λ (s : HeldSource). s.left) c.self.view_is)
+          (c.copy_front-count.ensures.bytes ∙ ap (λ (l : List ℕ). take n l) rest),
+    )

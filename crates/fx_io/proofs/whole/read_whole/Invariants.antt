@@ -1,0 +1,15 @@
+-- The bytes so far are gone from the source, and no more than the limit; each turn brings one at least.
+use Rattle.std.proofs.Common.{◌≡◌, ◌-◌, ◌≤◌, length}
+use Rattle.fx_io.specs.Told.{Loses}
+use Rattle.fx_io.proofs.whole.read_whole.Given as goal
+
+abbrev pub invariant-loop-count : goal.invariant-loop-count
+invariant-loop-count g l = record {
+  gone : Loses (g.S.Source.left l.fn.source) (g.S.Source.left l.source) l.bytes;
+  within : length l.bytes ≤ l.limit;
+  room : length l.piece ≡ 4096;
+  counts : g.S.Source.faults l.fn.source ≤ g.S.Source.faults l.source;
+}
+
+abbrev pub decreases-loop-count : goal.decreases-loop-count
+decreases-loop-count g l = l.limit - length l.bytes

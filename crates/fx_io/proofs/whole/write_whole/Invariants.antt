@@ -1,0 +1,13 @@
+-- A front of the piece was written, and the rest is left; each turn writes one byte at least.
+use Rattle.std.proofs.Common.{◌≡◌, ◌≤◌, List, ℕ, ◌++◌, length}
+use Rattle.fx_io.specs.Told.{Gains}
+use Rattle.fx_io.proofs.whole.write_whole.Given as goal
+
+abbrev pub invariant-loop-rest : goal.invariant-loop-rest
+invariant-loop-rest g l = record {
+  added : (front : List ℕ) × (l.piece ≡ front ++ l.rest) × Gains (g.K.Sink.written l.fn.sink) (g.K.Sink.written l.sink) front;
+  counts : g.K.Sink.faults l.fn.sink ≤ g.K.Sink.faults l.sink;
+}
+
+abbrev pub decreases-loop-rest : goal.decreases-loop-rest
+decreases-loop-rest g l = length l.rest

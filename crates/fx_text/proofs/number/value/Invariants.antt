@@ -1,0 +1,7 @@
+-- the value of the digits so far, as far as it fits
+use Rattle.std.proofs.Common.{◌≡◌, ◌-◌, ◌^◌, min, take}
+use Rattle.std.specs.Str.Parse.{digits_value}
+use Rattle.fx_text.proofs.number.value.Given as goal
+
+abbrev pub invariant-loop-digit : goal.invariant-loop-digit
+invariant-loop-digit l = l.value ≡ min (digits_value 10 (take l.digit-index l.digits)) (2 ^ 64 - 1)

@@ -1,0 +1,14 @@
+//! The lines of a text, the words of a line, and the numbers that words spell.
+#![tactic(auto)]
+
+pub mod laws;
+mod line;
+mod number;
+mod word;
+
+pub use line::{LineSpan, next_line};
+pub use number::{NumberFault, push_number, read_number};
+pub use word::{Span, next_word};
+
+#[cfg(test)]
+mod tests;
