@@ -1,11 +1,13 @@
 //! The lines of a text, the words of a line, and the numbers that words spell.
 #![tactic(auto)]
 
+mod check;
 pub mod laws;
 mod line;
 mod number;
 mod word;
 
+pub use check::{LONGEST_LINE, LineFault, check_line};
 pub use line::{LineSpan, next_line};
 pub use number::{NumberFault, push_number, read_number};
 pub use word::{Span, next_word};

@@ -57,3 +57,11 @@ fn numbers_have_one_form(rt: HostRuntime) -> Result<(), Fail> {
     assert_eq!(rt; out.as_slice(), b":-9223372036854775808".as_slice());
     Ok(())
 }
+
+#[test]
+fn lines_are_checked(rt: HostRuntime) {
+    assert_eq!(rt; check_line(b"fenix 1"), Ok(()));
+    assert_eq!(rt; check_line(b"a\tb\n"), Err(LineFault::NotAscii(2)));
+    assert_eq!(rt; check_line(&[b'a'; 1024]), Ok(()));
+    assert_eq!(rt; check_line(&[b'a'; 1025]), Err(LineFault::TooLong));
+}
