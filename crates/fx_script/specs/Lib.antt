@@ -1,0 +1,11 @@
+pub mod Left
+pub mod Outcome
+pub mod Names
+pub mod Comments
+pub mod Fields
+pub mod Keywords
+pub mod Next
+pub mod Heads
+pub mod Moves
+pub mod Reading
+pub mod Answers

@@ -1,0 +1,100 @@
+-- Reading a text line by line, up to the first fault.
+use Rattle.std.specs.Prelude.{◌≡◌, ℕ, ◌+◌, Bool, true, false, if◌then◌else◌, List, [], ◌∷◌, length, Option, Some, None, Result, Ok, Err}
+use Rattle.fx_base.specs.declared.spot.Spot.{Spot}
+use Rattle.fx_text.specs.declared.check.LineFault.{LineFault}
+use Rattle.fx_text.specs.declared.check.LineFault.TheVariants as line_fault
+use Rattle.fx_text.specs.Checks.{checked}
+use Rattle.fx_text.specs.Lines.{Line, lines_of}
+use Rattle.fx_text.specs.Words.{Word, words_of}
+use Rattle.fx_script.specs.declared.draft.Draft.{Draft}
+use Rattle.fx_script.specs.declared.draft.Stage.{Stage}
+use Rattle.fx_script.specs.declared.draft.Stage.TheVariants as stage
+use Rattle.fx_script.specs.declared.head.Head.{Head}
+use Rattle.fx_script.specs.declared.keyword.Keyword.{Keyword}
+use Rattle.fx_script.specs.declared.refusal.JobFault.{JobFault}
+use Rattle.fx_script.specs.declared.refusal.JobFault.TheVariants.{NotAscii, LineTooLong, BadLine, MissingPart, TrailingText}
+use Rattle.fx_script.specs.declared.refusal.Wrong.{Wrong}
+use Rattle.fx_script.specs.Left.{Left}
+use Rattle.fx_script.specs.Outcome.{◌>>=◌}
+use Rattle.fx_script.specs.Comments.{is_comment}
+use Rattle.fx_script.specs.Fields.{misfit}
+use Rattle.fx_script.specs.Keywords.{keyword_of}
+use Rattle.fx_script.specs.Heads.{head_at}
+use Rattle.fx_script.specs.Moves.{empty_draft, may_stand, moved}
+
+-- a fault and its place
+pub record Refusal : Type 0 where
+  pub fault : JobFault
+  pub spot : Spot
+
+-- a line that is no comment and has words: its number, its first word, and the words behind it
+pub record Met : Type 0 where
+  pub number : ℕ
+  pub first : Word
+  pub left : Left
+
+-- what is met in a line with these words, whose end is one before this column
+abbrev pub met_of : ℕ → ℕ → List Word → Option Met
+met_of number past [] = None
+met_of number past (w ∷ ws) = if is_comment w then None else Some (record { number = number; first = w; left = record { words = ws; past = past } })
+
+-- what is met in a line
+abbrev pub met_in : ℕ → List ℕ → Option Met
+met_in number line = met_of number (length line + 1) (words_of line)
+
+-- a line is sound: its bytes are printable, it isn't too long, and it has its line end
+abbrev pub soundness : Result (Unit {0}) LineFault → Bool → ℕ → Result (Unit {0}) Wrong
+soundness (Err (line_fault.NotAscii column)) ended past = Err (record { fault = NotAscii; column = column })
+soundness (Err line_fault.TooLong) ended past = Err (record { fault = LineTooLong; column = 1025 })
+soundness (Ok fine) false past = Err (record { fault = BadLine; column = past })
+soundness (Ok fine) true past = Ok tt
+
+abbrev pub sound : Line → Result (Unit {0}) Wrong
+sound line = soundness (checked line.bytes) line.ended (length line.bytes + 1)
+
+-- what a line says whose keyword may stand here; no other first word can
+abbrev pub head_placed : Stage → Option Keyword → Word → Left → Result Head Wrong
+head_placed s None first left = Err (misfit first)
+head_placed s (Some keyword) first left = if may_stand s keyword then head_at keyword left else Err (misfit first)
+
+-- what a line says at this stage; nothing may follow `stop`
+abbrev pub head_in : Stage → Word → Left → Result Head Wrong
+head_in stage.Stopped first left = Err (record { fault = TrailingText; column = first.column })
+head_in s first left = head_placed s (keyword_of first.bytes) first left
+
+-- the spot of a line
+abbrev pub spot_of : Met → Spot
+spot_of m = record { line = m.number; column = m.first.column }
+
+-- the draft behind a line in which this is met
+abbrev pub taken : Draft → Option Met → Result Draft Wrong
+taken d None = Ok d
+taken d (Some m) = head_in d.stage m.first m.left >>= λ head. Ok (moved d (spot_of m) head)
+
+-- the draft behind a line
+abbrev pub line_taken : Draft → ℕ → Line → Result Draft Wrong
+line_taken d number line = sound line >>= λ fine. taken d (met_in number line.bytes)
+
+-- what is wrong in a line, with the line's number
+abbrev pub at_line : ℕ → Result Draft Wrong → Result Draft Refusal
+at_line number (Ok d) = Ok d
+at_line number (Err w) = Err (record { fault = w.fault; spot = record { line = number; column = w.column } })
+
+-- a draft whose `stop` was read is whole; else a part is missing in the line after the last
+abbrev pub finished : Draft → ℕ → Stage → Result Draft Refusal
+finished d number stage.Stopped = Ok d
+finished d number s = Err (record { fault = MissingPart; spot = record { line = number; column = 1 } })
+
+-- the first reading, and then the second of its draft, unless it is refused
+abbrev pub and_then : Result Draft Refusal → (Draft → Result Draft Refusal) → Result Draft Refusal
+and_then (Ok d) f = f d
+and_then (Err r) f = Err r
+
+-- the lines from this one on, one after another
+abbrev pub run : Draft → ℕ → List Line → Result Draft Refusal
+run d number [] = finished d number d.stage
+run d number (line ∷ lines) = and_then (at_line number (line_taken d number line)) (λ next. run next (number + 1) lines)
+
+-- a whole text
+abbrev pub reading : List ℕ → Result Draft Refusal
+reading text = run empty_draft 1 (lines_of text)

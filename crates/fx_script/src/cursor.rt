@@ -1,0 +1,143 @@
+ghost use Rattle.std.specs.Prelude.{◌≡◌, [], ◌<◌, ◌+◌, ◌-◌, ◌^◌, length, IfOk, MatchOption};
+ghost use Rattle.std.specs.Borrow.{Bor};
+ghost use Rattle.fx_text.specs.Words.{words_of};
+ghost use Rattle.fx_script.specs.Outcome.{Gives, GivesLeaving};
+ghost use Rattle.fx_script.specs.Fields.{misfit, fixed_at, name_at, number_at, end_at};
+ghost use Rattle.fx_script.specs.Comments.{is_comment};
+ghost use Rattle.fx_script.specs.Next.{IsNext, IsDue, word_of};
+ghost use Rattle.fx_script.specs.declared.refusal.Stop.TheVariants as stop;
+
+use crate::keyword::is_text;
+use crate::name::is_name;
+use crate::refusal::{JobFault, Stop, Wrong};
+use fx_base::Bytes;
+use fx_text::{next_word, read_number};
+use std::alloc::Global;
+use std::marker::Model;
+
+/// A word of a line, and the column of its first byte.
+#[derive(Clone, Copy)]
+pub struct FoundWord<'a> {
+    pub bytes: &'a [u8],
+    pub column: u32,
+}
+
+/// The words of a line that are still to be read. It is seen as these words and the column past the line's end.
+#[derive(Drop)]
+pub struct Cursor<'a> {
+    line: &'a [u8],
+    at: usize,
+}
+
+impl<'a> Model for Cursor<'a> {
+    ghost use Rattle.std.specs.Prelude.{◌+◌, ◌-◌, ◌^◌, ◌<◌, ◌≤◌, drop, length};
+    ghost use Rattle.fx_text.specs.Words.{words_from};
+    ghost use Rattle.fx_script.specs.Left.{Left};
+
+    ghost Value = { Left };
+
+    ghost view = { λ c. record { words = words_from (c.at + 1) (drop c.at c.line.now); past = length c.line.now + 1 } };
+
+    ghost invariant = { λ c. (c.at ≤ length c.line.now) × (length c.line.now < 2 ^ 32 - 1) };
+}
+
+impl<'a> Cursor<'a> {
+    /// All words of a line.
+    pub fn new(line: &'a [u8]) -> Cursor<'a>
+        requires { length line.now < 2 ^ 32 - 1 }
+        ensures { result ≡ record { words = words_of line.now; past = length line.now + 1 } }
+    {
+        Cursor { line, at: 0 }
+    }
+
+    /// The next word, if there is one.
+    pub fn next(&mut self) -> Option<FoundWord<'a>>
+        ensures { MatchOption result (self.old.words ≡ []) (λ word. IsNext word self.old self.new) }
+    {
+        let span = next_word(self.line, self.at)?;
+        self.at = span.to;
+        Some(FoundWord {
+            bytes: &self.line[span.from..span.to],
+            column: span.from as u32 + 1,
+        })
+    }
+}
+
+impl<'a> Cursor<'a> {
+    // The next word, which must be there.
+    fn due(&mut self) -> Result<FoundWord<'a>, Wrong>
+        ensures { IsDue result self.old self.new }
+    {
+        let past = self.line.len() as u32 + 1;
+        self.next().ok_or(Wrong {
+            fault: JobFault::BadLine,
+            column: past,
+        })
+    }
+
+    /// Reads this very word.
+    pub fn fixed(&mut self, text: &str) -> Result<(), Stop>
+        ensures { GivesLeaving result self.new (fixed_at text.now self.old) }
+    {
+        let word = self.due()?;
+        if !is_text(word.bytes, text) {
+            return Err(word.misfit());
+        }
+        Ok(())
+    }
+
+    /// Reads a name.
+    pub fn name(&mut self, alloc: Global) -> Result<Bytes, Stop>
+        ensures { GivesLeaving result self.new (name_at self.old) }
+    {
+        let word = self.due()?;
+        if !is_name(word.bytes) {
+            return Err(word.misfit());
+        }
+        let mut name = Bytes::new(alloc);
+        name.append(word.bytes)?;
+        Ok(name)
+    }
+
+    /// Reads a number.
+    pub fn number(&mut self) -> Result<i64, Stop>
+        ensures { GivesLeaving result self.new (number_at self.old) }
+    {
+        let word = self.due()?;
+        read_number(word.bytes).map_err(|_| {
+            Stop::Wrong(Wrong {
+                fault: JobFault::BadNumber,
+                column: word.column,
+            })
+        })
+    }
+
+    /// Sees that no word is left.
+    pub fn end(&mut self) -> Result<(), Stop>
+        ensures { Gives result (end_at self.old) }
+    {
+        match self.next() {
+            None => Ok(()),
+            Some(word) => Err(word.misfit()),
+        }
+    }
+}
+
+impl<'a> FoundWord<'a> {
+    /// Whether its line is a comment, where it is the first.
+    pub fn is_comment(&self) -> bool
+        ensures { result ≡ is_comment (word_of self.now) }
+    {
+        matches!(self.bytes, [b'#', ..])
+    }
+
+    // What is wrong where this word doesn't fit.
+    pub fn misfit(&self) -> Stop
+        ensures { result ≡ stop.Wrong (misfit (word_of self.now)) }
+    {
+        Stop::Wrong(Wrong {
+            fault: JobFault::BadLine,
+            column: self.column,
+        })
+    }
+}

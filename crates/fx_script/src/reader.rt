@@ -1,0 +1,146 @@
+ghost use Rattle.std.specs.Prelude.{◌≡◌, Some, ◌<◌, ◌-◌, ◌^◌, length};
+ghost use Rattle.fx_script.specs.Outcome.{Gives};
+ghost use Rattle.fx_script.specs.Next.{word_of};
+ghost use Rattle.fx_script.specs.Reading.{sound, head_in, taken, line_taken, at_line, reading};
+ghost use Rattle.fx_script.specs.Answers.{Advances, Proceeds, Answers};
+
+use crate::cursor::{Cursor, FoundWord};
+use crate::draft::{Draft, Stage, may_stand};
+use crate::head::{Head, read_head};
+use crate::keyword::keyword_of;
+use crate::refusal::{JobFault, ReadJob, Stop, Wrong};
+use fx_base::Spot;
+use fx_text::{LONGEST_LINE, LineFault, check_line, next_line};
+use std::alloc::Global;
+
+/// Reads the lines of a text one after another, up to the first fault.
+pub fn read_text(alloc: Global, text: &[u8]) -> Result<Draft, ReadJob>
+    requires { length text.now < 2 ^ 32 - 1 }
+    ensures { Answers result (reading text.now) }
+{
+    let mut draft = Draft::new(alloc);
+    let mut number = 1u32;
+    let mut at = 0;
+    while let Some(line) = next_line(text, at) {
+        read_line(
+            alloc,
+            &mut draft,
+            number,
+            &text[line.from..line.to],
+            line.ended,
+        )?;
+        number += 1;
+        at = line.to + 1;
+    }
+    match draft.stage {
+        Stage::Stopped => Ok(draft),
+        _ => Err(ReadJob::Refused(
+            JobFault::MissingPart,
+            Spot {
+                line: number,
+                column: 1,
+            },
+        )),
+    }
+}
+
+// Reads the line of this number.
+fn read_line(
+    alloc: Global,
+    draft: &mut Draft,
+    number: u32,
+    line: &[u8],
+    ended: bool,
+) -> Result<(), ReadJob>
+    requires { length line.now < 2 ^ 32 - 1 }
+    ensures { Proceeds result draft.new
+        (at_line number (line_taken draft.old number (record { bytes = line.now; ended = ended }))) }
+{
+    match take_line(alloc, draft, number, line, ended) {
+        Ok(()) => Ok(()),
+        Err(Stop::NoMemory) => Err(ReadJob::NoMemory),
+        Err(Stop::Wrong(wrong)) => Err(ReadJob::Refused(
+            wrong.fault,
+            Spot {
+                line: number,
+                column: wrong.column,
+            },
+        )),
+    }
+}
+
+fn take_line(
+    alloc: Global,
+    draft: &mut Draft,
+    number: u32,
+    line: &[u8],
+    ended: bool,
+) -> Result<(), Stop>
+    requires { length line.now < 2 ^ 32 - 1 }
+    ensures { Advances result draft.new (line_taken draft.old number (record { bytes = line.now; ended = ended })) }
+{
+    see_sound(line, ended)?;
+    let mut cursor = Cursor::new(line);
+    match cursor.next() {
+        Some(first) if !first.is_comment() => take_met(alloc, draft, number, first, &mut cursor),
+        _ => Ok(()),
+    }
+}
+
+// Takes a line with words that is no comment, behind its first word.
+fn take_met(
+    alloc: Global,
+    draft: &mut Draft,
+    number: u32,
+    first: FoundWord,
+    cursor: &mut Cursor,
+) -> Result<(), Stop>
+    ensures { Advances result draft.new
+        (taken draft.old (Some (record { number = number; first = word_of first.entry; left = cursor.old }))) }
+{
+    let head = head_of(alloc, draft.stage, first, cursor)?;
+    let spot = Spot {
+        line: number,
+        column: first.column,
+    };
+    draft.take(spot, head)?;
+    Ok(())
+}
+
+// Sees that a line is printable, not too long, and has its line end.
+fn see_sound(line: &[u8], ended: bool) -> Result<(), Wrong>
+    requires { length line.now < 2 ^ 32 - 1 }
+    ensures { result ≡ sound (record { bytes = line.now; ended = ended }) }
+{
+    match check_line(line) {
+        Err(LineFault::NotAscii(column)) => Err(Wrong {
+            fault: JobFault::NotAscii,
+            column,
+        }),
+        Err(LineFault::TooLong) => Err(Wrong {
+            fault: JobFault::LineTooLong,
+            column: LONGEST_LINE as u32 + 1,
+        }),
+        Ok(()) if !ended => Err(Wrong {
+            fault: JobFault::BadLine,
+            column: line.len() as u32 + 1,
+        }),
+        Ok(()) => Ok(()),
+    }
+}
+
+// Reads what a line says whose first word was read.
+fn head_of(alloc: Global, stage: Stage, first: FoundWord, cursor: &mut Cursor) -> Result<Head, Stop>
+    ensures { Gives result (head_in stage (word_of first.entry) cursor.old) }
+{
+    if stage == Stage::Stopped {
+        return Err(Stop::Wrong(Wrong {
+            fault: JobFault::TrailingText,
+            column: first.column,
+        }));
+    }
+    match keyword_of(first.bytes) {
+        Some(keyword) if may_stand(stage, keyword) => read_head(alloc, keyword, cursor),
+        _ => Err(first.misfit()),
+    }
+}
