@@ -24,6 +24,6 @@ Proceeds (Ok done) new reading = reading ≡ Ok new
 Proceeds (Err e) new reading = Refuses e reading
 
 -- and of a whole text
-abbrev pub Answers : Result Draft ReadJob → Result Draft Refusal → Type 0
-Answers (Ok draft) reading = reading ≡ Ok draft
+abbrev pub Answers : {X : Type 0} → Result X ReadJob → Result X Refusal → Type 0
+Answers (Ok x) reading = reading ≡ Ok x
 Answers (Err e) reading = Refuses e reading

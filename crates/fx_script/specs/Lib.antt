@@ -9,3 +9,4 @@ pub mod Heads
 pub mod Moves
 pub mod Reading
 pub mod Answers
+pub mod Spelling

@@ -10,6 +10,7 @@ use Rattle.fx_script.specs.declared.draft.Draft.{Draft}
 use Rattle.fx_script.specs.declared.draft.Stage.{Stage}
 use Rattle.fx_script.specs.declared.draft.Stage.TheVariants as stage
 use Rattle.fx_script.specs.declared.head.Head.{Head}
+use Rattle.fx_script.specs.declared.job.Job.{Job}
 use Rattle.fx_script.specs.declared.keyword.Keyword.{Keyword}
 use Rattle.fx_script.specs.declared.refusal.JobFault.{JobFault}
 use Rattle.fx_script.specs.declared.refusal.JobFault.TheVariants.{NotAscii, LineTooLong, BadLine, MissingPart, TrailingText}
@@ -98,3 +99,15 @@ run d number (line ∷ lines) = and_then (at_line number (line_taken d number li
 -- a whole text
 abbrev pub reading : List ℕ → Result Draft Refusal
 reading text = run empty_draft 1 (lines_of text)
+
+-- the job of a draft
+abbrev pub job_of : Draft → Job
+job_of d = record { separation = d.separation; names = d.names; body = d.body }
+
+-- the job in a text, or the first refusal
+abbrev pub job_in_draft : Result Draft Refusal → Result Job Refusal
+job_in_draft (Ok d) = Ok (job_of d)
+job_in_draft (Err r) = Err r
+
+abbrev pub job_in : List ℕ → Result Job Refusal
+job_in text = job_in_draft (reading text)

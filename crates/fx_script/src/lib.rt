@@ -7,8 +7,10 @@ mod head;
 mod job;
 mod keyword;
 mod name;
+mod read;
 mod reader;
 mod refusal;
 
 pub use job::{Decl, Job, Names, Stmt, Stmts};
+pub use read::read_job;
 pub use refusal::{JobFault, ReadJob};

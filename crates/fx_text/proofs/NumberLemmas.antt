@@ -1,5 +1,5 @@
 -- Digits and the numbers that they spell.
-use Rattle.std.proofs.Common.{◌≡◌, ℕ, zero, suc, ◌+◌, ◌-◌, ◌*◌, ◌^◌, ◌<◌, ◌≤◌, min, Bool, true, false, not, ◌&&◌, ◌||◌, cond, eqb, leb, ltb, List, [], ◌∷◌, length, take, get_or, Result, Ok, Err, refl, sym, ap, ◌∙◌, arith, inl, inr}
+use Rattle.std.proofs.Common.{◌≡◌, ℕ, zero, suc, ◌+◌, ◌-◌, ◌*◌, ◌^◌, ◌<◌, ◌≤◌, min, Bool, true, false, not, ◌&&◌, ◌||◌, cond, eqb, leb, ltb, List, [], ◌∷◌, length, take, get_or, Result, Ok, Err, refl, sym, ap, subst, ◌∙◌, arith, inl, inr}
 use Rattle.std.specs.Prelude.{ℤ, pos, negsuc, neg_ℤ, IfOk}
 use Rattle.std.specs.Fmt.{decimal, signed_decimal}
 use Rattle.std.specs.List.{list_all}
@@ -140,3 +140,26 @@ number_again (negsuc n) fits =
     let form : is_positive (decimal (suc n)) ≡ true =
     and_from (is_natural (decimal (suc n))) (not (eqb (get_or (decimal (suc n)) 0 0) 48)) (natural_form (suc n) (omega arith)) (not_48 n (omega arith)) in
     rw (form, digits_value-decimal own (suc n) (omega arith), fits) refl
+
+-- a number that was read fits
+pub fits_if_read : (z : ℤ) (y : ℤ) → within_64 z ≡ Ok y → fits_64 y ≡ true
+fits_if_read z y e = let w = within_is z y e in subst (λ (v : ℤ). fits_64 v ≡ true) w.1 w.0
+
+natural_fits : (ds : List ℕ) (z : ℤ) → natural_in ds ≡ Ok z → fits_64 z ≡ true
+natural_fits ds z e = elim (cases_Bool (is_natural ds)) [
+  | inl t ↦ fits_if_read (pos (digits_value 10 ds)) z (rw t at e)
+  | inr f ↦ let s : Err NotANumber ≡ Ok z = rw f at e in absurd cc
+]
+
+negative_fits : (ds : List ℕ) (z : ℤ) → negative_in ds ≡ Ok z → fits_64 z ≡ true
+negative_fits ds z e = elim (cases_Bool (is_positive ds)) [
+  | inl t ↦ fits_if_read (neg_ℤ (pos (digits_value 10 ds))) z (rw t at e)
+  | inr f ↦ let s : Err NotANumber ≡ Ok z = rw f at e in absurd cc
+]
+
+pub number_fits : (word : List ℕ) (z : ℤ) → number_in word ≡ Ok z → fits_64 z ≡ true
+number_fits [] z e = absurd cc
+number_fits (b ∷ bs) z e = elim (cases_Bool (eqb b 45)) [
+  | inl t ↦ let s : negative_in bs ≡ Ok z = rw t at e in negative_fits bs z s
+  | inr f ↦ let s : natural_in (b ∷ bs) ≡ Ok z = rw f at e in natural_fits (b ∷ bs) z s
+]
