@@ -1,5 +1,5 @@
 -- Runs that are apart: how one is added, and what the blocks and the sorted intervals give.
-use Rattle.std.proofs.Common.{◌≡◌, ℕ, zero, suc, ◌+◌, ◌-◌, ◌*◌, ◌<◌, ◌≤◌, Bool, true, false, ◌&&◌, ◌||◌, ◌==◌, nat_lt, nat_le, max, Option, None, All, List, [], ◌∷◌, ◌++◌, length, get_or, refl, sym, ap, ◌∙◌, arith}
+use Rattle.std.proofs.Common.{◌≡◌, ℕ, zero, suc, ◌+◌, ◌-◌, ◌*◌, ◌<◌, ◌≤◌, Bool, true, false, ◌&&◌, ◌||◌, ◌==◌, nat_lt, nat_le, max, Option, None, All, List, [], ◌∷◌, ◌++◌, length, get_or, drop, drop-cons, add-one, refl, sym, ap, ◌∙◌, arith}
 use Rattle.std.specs.List.{list_any}
 use Rattle.std.proofs.lemmas.Bool.Decides.{nat_tests}
 use Rattle.std.proofs.lemmas.List.Folds.{list_any-append}
@@ -38,6 +38,10 @@ block_alone start last q a b e f = grind (arith, nat_tests)
 
 block_joined : (start last stride shift next q : ℕ) → start ≤ last → start + stride ≤ last + 1 → next ≡ shift + stride → (is_between (start, last + shift) q || (is_between (start + next, last + next) q || false)) ≡ is_between (start, last + next) q
 block_joined start last stride shift next q up near e = grind (arith, nat_tests)
+
+or_none : (a : Bool) → a ≡ (a || false)
+or_none true = refl
+or_none false = refl
 
 -- blocks that run into one another cover one interval
 pub blocks_joined : (n start last stride q : ℕ) → start ≤ last → start + stride ≤ last + 1 → is_covered (blocks_of (suc n) start last stride) q ≡ is_between (start, last + n * stride) q
@@ -111,12 +115,14 @@ grows_close runs first last next left sorted g far =
         ∙ g.same index;
     }
 
--- no interval is left
-pub grown_apart : (runs : List (ℕ × ℕ)) (first last : ℕ) (sorted : List (ℕ × ℕ)) → Grows runs first last [] sorted → AreApart 0 (runs ++ (first, last) ∷ [])
-grown_apart runs first last sorted g = apart_push 0 runs first last g.apart g.room g.up g.low
+-- the interval in place i of what there was to go over
+pub grows_join_at : (runs : List (ℕ × ℕ)) (first last : ℕ) (rest sorted : List (ℕ × ℕ)) (i : ℕ) (d : ℕ × ℕ) → i < length rest → Grows runs first last (drop i rest) sorted → (get_or rest i d).0 ≤ last + 1 → Grows runs first (max last (get_or rest i d).1) (drop (i + 1) rest) sorted
+grows_join_at runs first last rest sorted i d h g near =
+    rw (add-one i) (grows_join runs first last (get_or rest i d) (drop (suc i) rest) sorted (rw (drop-cons rest i d) at g) near)
 
-pub grown_same : (runs : List (ℕ × ℕ)) (first last : ℕ) (sorted : List (ℕ × ℕ)) → Grows runs first last [] sorted → (index : ℕ) → is_covered (runs ++ (first, last) ∷ []) index ≡ is_covered sorted index
-grown_same runs first last sorted g index = list_any-append (λ interval. is_between interval index) runs ((first, last) ∷ []) ∙ g.same index
+pub grows_close_at : (runs : List (ℕ × ℕ)) (first last : ℕ) (rest sorted : List (ℕ × ℕ)) (i : ℕ) (d : ℕ × ℕ) → i < length rest → Grows runs first last (drop i rest) sorted → last + 1 < (get_or rest i d).0 → Grows (runs ++ (first, last) ∷ []) (get_or rest i d).0 (get_or rest i d).1 (drop (i + 1) rest) sorted
+grows_close_at runs first last rest sorted i d h g far =
+    rw (add-one i) (grows_close runs first last (get_or rest i d) (drop (suc i) rest) sorted (rw (drop-cons rest i d) at g) far)
 
 in_order_of : (from : ℕ) (intervals : List (ℕ × ℕ)) → All IsWhole intervals → IsNonDecreasingBy (λ interval. interval.0) intervals → ((d : ℕ × ℕ) → 0 < length intervals → from ≤ (get_or intervals 0 d).0) → AreInOrder from intervals
 in_order_of from [] whole sorted later = tt
@@ -160,3 +166,10 @@ pub whole_where_no_fault : (len : ℕ) (pairs : List (ℕ × ℕ)) → fault_of_
 whole_where_no_fault len pairs none fits =
     let parts = no_fault (length pairs == 0) (list_any (λ pair. nat_lt pair.1 pair.0) pairs) (list_any (λ pair. nat_le len pair.1) pairs) NoBlocks EndBeforeStart Outside none in
     whole_pairs len pairs parts.0 parts.1 fits
+
+-- some blocks that run into one another cover one interval
+pub blocks_cover_one : (blocks start last stride q : ℕ) → 0 < blocks → start ≤ last → stride ≤ last - start + 1 → is_covered (blocks_of blocks start last stride) q ≡ (is_between (start, last + (blocks - 1) * stride) q || false)
+blocks_cover_one zero start last stride q some up near = absurd (omega arith)
+blocks_cover_one (suc n) start last stride q some up near =
+    let before : suc n - 1 ≡ n = omega arith in
+    rw before (blocks_joined n start last stride q up (omega arith) ∙ or_none (is_between (start, last + n * stride) q))
