@@ -78,7 +78,7 @@ covered_step : (from first last q : ℕ) (b : Bool) → from ≤ first → first
 covered_step from first last q b h up rest e = grind (arith, nat_tests)
 
 -- what runs cover that begin at `from` or later
-covered_from : (from : ℕ) (runs : List (ℕ × ℕ)) (q : ℕ) → AreApart from runs → is_covered runs q ≡ true → from ≤ q
+pub covered_from : (from : ℕ) (runs : List (ℕ × ℕ)) (q : ℕ) → AreApart from runs → is_covered runs q ≡ true → from ≤ q
 covered_from from [] q apart e = absurd (cc)
 covered_from from (run ∷ runs) q apart e =
     covered_step from run.0 run.1 q (is_covered runs q) apart.0 apart.1 (covered_from (run.1 + 2) runs q apart.3) e

@@ -1,5 +1,5 @@
 -- The indices that whole intervals cover. An interval is a pair of its first and its last index, both included.
-use Rattle.std.specs.Prelude.{◌≡◌, refl, ℕ, zero, suc, ◌+◌, ◌*◌, Bool, ◌&&◌, nat_le, List, [], ◌∷◌, ◌++◌, max}
+use Rattle.std.specs.Prelude.{◌≡◌, refl, ℕ, zero, suc, ◌+◌, ◌*◌, ◌≤◌, Bool, IsTrue, ◌&&◌, nat_le, List, [], ◌∷◌, ◌++◌, max}
 use Rattle.std.specs.List.{filter, list_any}
 use Rattle.std.specs.Ordering.{nat_cmp}
 use Rattle.std.specs.FinSet as set
@@ -11,6 +11,10 @@ is_between interval index = nat_le interval.0 index && nat_le index interval.1
 -- whether one of the intervals covers the index
 abbrev pub is_covered : List (ℕ × ℕ) → ℕ → Bool
 is_covered intervals index = list_any (λ interval. is_between interval index) intervals
+
+-- one of the intervals covers an index that is len or more
+abbrev pub HasIndexFrom : ℕ → List (ℕ × ℕ) → Type 0
+HasIndexFrom len intervals = (index : ℕ) × (len ≤ index) × IsTrue (is_covered intervals index)
 
 -- the numbers below n, rising
 unfoldable pub numbers_below : ℕ → List ℕ

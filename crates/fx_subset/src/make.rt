@@ -1,7 +1,7 @@
-ghost use Rattle.std.specs.Prelude.{◌≡◌, nat_le, nat_lt, IfOk};
+ghost use Rattle.std.specs.Prelude.{◌≡◌, ◌<◌, ℕ, IsTrue, nat_le, nat_lt, IfOk, IsErrOf};
 ghost use Rattle.std.specs.List.{list_any};
 ghost use Rattle.std.specs.FinSet as set;
-ghost use Rattle.fx_subset.specs.Indices.{blocks_of, numbers_below, union_of};
+ghost use Rattle.fx_subset.specs.Indices.{HasIndexFrom, blocks_of, numbers_below, union_of};
 ghost use Rattle.fx_subset.specs.Fault.{fault_of_blocks, fault_of_pairs, fault_of_whole, Refuses};
 
 use crate::fault::{MakeSubset, SubsetFault};
@@ -24,7 +24,9 @@ pub fn strided(
     stride: u32,
 ) -> Result<Subset, MakeSubset>
     ensures made { IfOk result (λ subset. subset ≡ union_of (blocks_of blocks start end stride)) }
+    ensures inside { IfOk result (λ subset. (index : ℕ) → IsTrue (set.contains subset index) → index < len) }
     ensures refused { Refuses result (fault_of_blocks len blocks start end stride) }
+    ensures outside { IsErrOf result (MakeSubset.Refused SubsetFault.Outside) → HasIndexFrom len (blocks_of blocks start end stride) }
 {
     if let Some(fault) = blocks_fault(len, blocks, start, end, stride) {
         return Err(MakeSubset::Refused(fault));
@@ -40,7 +42,9 @@ pub fn strided(
 /// `len` or more.
 pub fn ranges(alloc: Global, len: u32, pairs: &Pairs) -> Result<Subset, MakeSubset>
     ensures made { IfOk result (λ subset. subset ≡ union_of pairs.now) }
+    ensures inside { IfOk result (λ subset. (index : ℕ) → IsTrue (set.contains subset index) → index < len) }
     ensures refused { Refuses result (fault_of_pairs len pairs.now) }
+    ensures outside { IsErrOf result (MakeSubset.Refused SubsetFault.Outside) → HasIndexFrom len pairs.now }
 {
     if let Some(fault) = pairs_fault(len, pairs.as_slice()) {
         return Err(MakeSubset::Refused(fault));

@@ -96,9 +96,14 @@ pub(crate) fn total(runs: &[(u32, u32)]) -> u32
     count
 }
 
-/// Whether one of the runs covers the index.
+/// Whether one of the runs covers the index. It halves the runs until one is left.
 pub(crate) fn covers(runs: &[(u32, u32)], index: u32) -> bool
+    requires { AreApart 0 runs.now }
     ensures { result ≡ is_covered runs.now index }
 {
-    runs.iter().any(|run| run.0 <= index && index <= run.1)
+    let at = runs.partition_point(|run| run.1 < index);
+    match runs.get(at) {
+        Some(run) => run.0 <= index,
+        None => false,
+    }
 }
