@@ -29,9 +29,10 @@ pub blocks_apart : (n start last stride : ℕ) → start ≤ last → last + 1 <
 unfolding blocks_of
 blocks_apart zero start last stride up gap low = (tt, omega arith)
 blocks_apart (suc n) start last stride up gap low =
-    let before = blocks_apart n start last stride up gap (λ k h. low k (omega arith)) in
-    ( apart_push 0 (blocks_of n start last stride) (start + n * stride) (last + n * stride) before.0 before.1 (omega arith) (low n (omega arith)),
-      rw (after-push 0 (blocks_of n start last stride) (start + n * stride) (last + n * stride)) (omega arith) )
+    let before = blocks_apart n start last stride up gap (λ k h. low k (omega arith)) in (
+      apart_push 0 (blocks_of n start last stride) (start + n * stride) (last + n * stride) before.0 before.1 (omega arith) (low n (omega arith)),
+      rw (after-push 0 (blocks_of n start last stride) (start + n * stride) (last + n * stride)) (omega arith),
+    )
 
 block_alone : (start last q : ℕ) (a b : ℕ) → a ≡ start → b ≡ last → (is_between (a, b) q || false) ≡ is_between (start, last) q
 block_alone start last q a b e f = grind (arith, nat_tests)
@@ -110,9 +111,9 @@ grows_close runs first last next left sorted g far =
       low = g.order.1.1;
       order = g.order.2;
       same = λ index.
-        ap (λ b. b || (is_between next index || is_covered left index)) (list_any-append (λ interval. is_between interval index) runs ((first, last) ∷ []))
-        ∙ or_assoc (is_covered runs index) (is_between (first, last) index) (is_between next index) (is_covered left index)
-        ∙ g.same index;
+          ap (λ b. b || (is_between next index || is_covered left index)) (list_any-append (λ interval. is_between interval index) runs ((first, last) ∷ []))
+          ∙ or_assoc (is_covered runs index) (is_between (first, last) index) (is_between next index) (is_covered left index)
+          ∙ g.same index;
     }
 
 -- the interval in place i of what there was to go over
@@ -126,11 +127,12 @@ grows_close_at runs first last rest sorted i d h g far =
 
 in_order_of : (from : ℕ) (intervals : List (ℕ × ℕ)) → All IsWhole intervals → IsNonDecreasingBy (λ interval. interval.0) intervals → ((d : ℕ × ℕ) → 0 < length intervals → from ≤ (get_or intervals 0 d).0) → AreInOrder from intervals
 in_order_of from [] whole sorted later = tt
-in_order_of from (interval ∷ intervals) whole sorted later =
-    ( later (0, 0) (omega arith),
-      All-head IsWhole interval intervals whole,
-      in_order_of interval.0 intervals (All-tail IsWhole interval intervals whole) (λ i j d h below. sorted (suc i) (suc j) d (omega arith) (omega arith))
-      (λ d some. sorted 0 1 d (omega arith) (omega arith)) )
+in_order_of from (interval ∷ intervals) whole sorted later = (
+  later (0, 0) (omega arith),
+  All-head IsWhole interval intervals whole,
+  in_order_of interval.0 intervals (All-tail IsWhole interval intervals whole) (λ i j d h below. sorted (suc i) (suc j) d (omega arith) (omega arith))
+      (λ d some. sorted 0 1 d (omega arith) (omega arith)),
+)
 
 -- sorted intervals are in order
 pub in_order : (intervals : List (ℕ × ℕ)) → All IsWhole intervals → IsNonDecreasingBy (λ interval. interval.0) intervals → AreInOrder 0 intervals

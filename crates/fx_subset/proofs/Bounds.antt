@@ -96,8 +96,8 @@ pairs_reach_from len (pair ∷ pairs) up e =
     elim (nat_le len pair.1) as (λ b. nat_le len pair.1 ≡ b → (b || list_any (λ pair. nat_le len pair.1) pairs) ≡ true → HasIndexFrom len (pair ∷ pairs)) [
       | true ↦ λ here _. (pair.1, le_of_test len pair.1 here, pair_end pair.0 pair.1 (is_covered pairs pair.1) ups.0)
       | false ↦ λ _ later.
-        let found = pairs_reach_from len pairs ups.1 later in
-        (found.0, found.1, or_true (is_between pair found.0) (is_covered pairs found.0) found.2)
+          let found = pairs_reach_from len pairs ups.1 later in
+          (found.0, found.1, or_true (is_between pair found.0) (is_covered pairs found.0) found.2)
     ] refl e
 
 pub pairs_reach : (len : ℕ) (pairs : List (ℕ × ℕ)) → fault_of_pairs len pairs ≡ Some Outside → HasIndexFrom len pairs

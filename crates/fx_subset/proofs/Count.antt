@@ -40,10 +40,10 @@ len-passing p (suc n) =
     rw (filter-append p (numbers_below n) (n ∷ []))
     (elim (p n) as (λ b. set.len (set.from_list {R = nat_cmp} (filter p (numbers_below n) ++ cond b (n ∷ []) [])) ≡ cond b (amount p n + 1) (amount p n)) [
       | true ↦
-        ap set.len (set.from_list_push nat_cmp_total set.nat_cmp-IsAntisymmetric (filter p (numbers_below n)) n)
-        ∙ set.len-insert nat_cmp_total (set.from_list (filter p (numbers_below n))) n
-        ∙ len_cond _ _ (without_next p n)
-        ∙ ap (λ m. m + 1) (len-passing p n)
+          ap set.len (set.from_list_push nat_cmp_total set.nat_cmp-IsAntisymmetric (filter p (numbers_below n)) n)
+          ∙ set.len-insert nat_cmp_total (set.from_list (filter p (numbers_below n))) n
+          ∙ len_cond _ _ (without_next p n)
+          ∙ ap (λ m. m + 1) (len-passing p n)
       | false ↦ rw (append-nil (filter p (numbers_below n))) (len-passing p n)
     ])
 

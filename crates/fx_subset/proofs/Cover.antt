@@ -62,11 +62,11 @@ pub union_of-append : (xs ys : List (ℕ × ℕ)) → union_of (xs ++ ys) ≡ se
 union_of-append xs ys =
     set.same_set nat_cmp_total set.nat_cmp-IsAntisymmetric _ _
     (λ q.
-      contains-union_of (xs ++ ys) q
-      ∙ list_any-append (λ interval. is_between interval q) xs ys
-      ∙ ap (λ b. b || is_covered ys q) (sym (contains-union_of xs q))
-      ∙ ap (λ b. set.contains (union_of xs) q || b) (sym (contains-union_of ys q))
-      ∙ sym (set.contains-union nat_cmp_total (union_of xs) (union_of ys) q))
+    contains-union_of (xs ++ ys) q
+    ∙ list_any-append (λ interval. is_between interval q) xs ys
+    ∙ ap (λ b. b || is_covered ys q) (sym (contains-union_of xs q))
+    ∙ ap (λ b. set.contains (union_of xs) q || b) (sym (contains-union_of ys q))
+    ∙ sym (set.contains-union nat_cmp_total (union_of xs) (union_of ys) q))
 
 pub union_of-none : union_of [] ≡ set.empty
 unfolding indices_of reach numbers_below

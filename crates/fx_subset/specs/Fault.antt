@@ -16,19 +16,19 @@ abbrev pub fault_of_blocks : (len blocks start last stride : ℕ) → Option Sub
 fault_of_blocks len blocks start last stride =
     first_that_holds
     ((blocks == 0, NoBlocks)
-      ∷ (nat_lt last start, EndBeforeStart)
-      ∷ (nat_lt 1 blocks && stride == 0, ZeroStride)
-      ∷ (nat_le len (last + (blocks - 1) * stride), Outside)
-      ∷ [])
+    ∷ (nat_lt last start, EndBeforeStart)
+    ∷ (nat_lt 1 blocks && stride == 0, ZeroStride)
+    ∷ (nat_le len (last + (blocks - 1) * stride), Outside)
+    ∷ [])
 
 -- the fault of pairs of a first and a last index
 abbrev pub fault_of_pairs : ℕ → List (ℕ × ℕ) → Option SubsetFault
 fault_of_pairs len pairs =
     first_that_holds
     ((length pairs == 0, NoBlocks)
-      ∷ (list_any (λ pair. nat_lt pair.1 pair.0) pairs, EndBeforeStart)
-      ∷ (list_any (λ pair. nat_le len pair.1) pairs, Outside)
-      ∷ [])
+    ∷ (list_any (λ pair. nat_lt pair.1 pair.0) pairs, EndBeforeStart)
+    ∷ (list_any (λ pair. nat_le len pair.1) pairs, Outside)
+    ∷ [])
 
 -- the fault of the whole of an array
 abbrev pub fault_of_whole : ℕ → Option SubsetFault
@@ -57,3 +57,7 @@ zero_stride = refl
 
 stride_of_one_block : fault_of_blocks 256 1 4 4 0 ≡ None
 stride_of_one_block = refl
+
+-- a pair that ends before it starts is answered before one that is outside
+first_of_two : fault_of_pairs 4 ((7, 8) ∷ (2, 1) ∷ []) ≡ Some EndBeforeStart
+first_of_two = refl

@@ -1,5 +1,5 @@
 -- The indices that whole intervals cover. An interval is a pair of its first and its last index, both included.
-use Rattle.std.specs.Prelude.{◌≡◌, refl, ℕ, zero, suc, ◌+◌, ◌*◌, ◌≤◌, Bool, IsTrue, ◌&&◌, nat_le, List, [], ◌∷◌, ◌++◌, max}
+use Rattle.std.specs.Prelude.{◌≡◌, refl, ℕ, zero, suc, ◌+◌, ◌*◌, ◌≤◌, Bool, IsTrue, ◌&&◌, nat_le, List, [], ◌∷◌, ◌++◌, length, max}
 use Rattle.std.specs.List.{filter, list_any}
 use Rattle.std.specs.Ordering.{nat_cmp}
 use Rattle.std.specs.FinSet as set
@@ -58,3 +58,8 @@ one_block = refl
 three_pairs : indices_of ((7, 8) ∷ (1, 2) ∷ (2, 4) ∷ []) ≡ 1 ∷ 2 ∷ 3 ∷ 4 ∷ 7 ∷ 8 ∷ []
 unfolding numbers_below reach indices_of
 three_pairs = refl
+
+-- both of the first two together
+sixteen_indices : length (indices_of (blocks_of 4 0 3 2 ++ blocks_of 3 250 251 2)) ≡ 16
+unfolding numbers_below reach indices_of blocks_of
+sixteen_indices = refl

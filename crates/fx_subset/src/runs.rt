@@ -15,7 +15,10 @@ pub(crate) fn run_alone(alloc: Global, first: u32, last: u32) -> Result<Vec<(u32
 }
 
 /// The runs of pairs in any order, which may overlap.
-pub(crate) fn runs_of_pairs(alloc: Global, pairs: &[(u32, u32)]) -> Result<Vec<(u32, u32)>, NoMemory>
+pub(crate) fn runs_of_pairs(
+    alloc: Global,
+    pairs: &[(u32, u32)],
+) -> Result<Vec<(u32, u32)>, NoMemory>
     requires { All IsWhole pairs.now }
     ensures apart { IfOk result (λ runs. AreApart 0 runs.items) }
     ensures same { IfOk result (λ runs. (index : ℕ) → is_covered runs.items index ≡ is_covered pairs.now index) }

@@ -9,8 +9,8 @@ returns-in-Some c =
     let point = IsPartitionPoint-from_clause (λ run. nat_lt run.1 c.args.index) c.args.runs.now c.partition_point-at.result c.partition_point-at.ensures.partitioned parted (λ a r q k. search rules) in
     let inside : c.partition_point-at.result < length c.args.runs.now = ltb-true _ _ (sym c.in-Some.ensures.lookup.0) in
     let found =
-      covered_at 0 c.args.runs.now c.partition_point-at.result c.args.index c.in-Some.run'.now c.requires inside (λ k d h. ltb-true _ _ (point.0 k d (omega arith) h))
-      (ltb-false _ _ (point.1 c.partition_point-at.result c.in-Some.run'.now (omega arith) inside)) in
+    covered_at 0 c.args.runs.now c.partition_point-at.result c.args.index c.in-Some.run'.now c.requires inside (λ k d h. ltb-true _ _ (point.0 k d (omega arith) h))
+    (ltb-false _ _ (point.1 c.partition_point-at.result c.in-Some.run'.now (omega arith) inside)) in
     ap (λ run. nat_le run.0 c.args.index) c.in-Some.ensures.lookup.1 ∙ sym found
 
 pub returns-in-None : goal.returns-in-None

@@ -8,11 +8,11 @@ loop-next-preserved c =
     let rest : List (ℕ × ℕ) = take (length c.args.sorted.now - 1) (drop 1 c.args.sorted.now) in
     elim c.if-next-last.branch [
       | then-next-last w ↦
-        let joined = grows_join_at c.loop-next.runs.items c.loop-next.first c.loop-next.last rest c.args.sorted.now c.loop-next.next-index (0, 0) (omega arith) c.loop-next.invariant (omega arith) in
-        rw (w.runs-is, w.first-is, w.last-is, w.max-last.ensures) joined
+          let joined = grows_join_at c.loop-next.runs.items c.loop-next.first c.loop-next.last rest c.args.sorted.now c.loop-next.next-index (0, 0) (omega arith) c.loop-next.invariant (omega arith) in
+          rw (w.runs-is, w.first-is, w.last-is, w.max-last.ensures) joined
       | else-next-last+in_ok-push w ↦
-        let closed = grows_close_at c.loop-next.runs.items c.loop-next.first c.loop-next.last rest c.args.sorted.now c.loop-next.next-index (0, 0) (omega arith) c.loop-next.invariant (omega arith) in
-        rw (w.runs-is, w.first-is, w.last-is, w.in_ok-push.ensures.items) closed
+          let closed = grows_close_at c.loop-next.runs.items c.loop-next.first c.loop-next.last rest c.args.sorted.now c.loop-next.next-index (0, 0) (omega arith) c.loop-next.invariant (omega arith) in
+          rw (w.runs-is, w.first-is, w.last-is, w.in_ok-push.ensures.items) closed
     ]
 
 pub returns-clause-apart : goal.returns-clause-apart

@@ -10,8 +10,8 @@ pub returns-then-stride-end-clause-same : goal.returns-then-stride-end-clause-sa
 returns-then-stride-end-clause-same c =
     IfOk-weaker c.run_alone.result _ _
     (λ runs is index.
-      ap (λ xs. is_covered xs index) is
-      ∙ sym (blocks_cover_one c.args.blocks c.args.start c.args.end c.args.stride index c.requires.some c.requires.ordered (omega arith)))
+    ap (λ xs. is_covered xs index) is
+    ∙ sym (blocks_cover_one c.args.blocks c.args.start c.args.end c.args.stride index c.requires.some c.requires.ordered (omega arith)))
     c.run_alone.ensures
 
 pub loop-block-init : goal.loop-block-init
@@ -27,4 +27,4 @@ returns-clause-apart c =
     let end : c.loop-block.block ≡ c.args.blocks = omega arith in
     rw c.loop-block.invariant
     (blocks_apart c.loop-block.block c.args.start c.args.end c.args.stride c.requires.ordered (omega arith)
-      (λ k h. let far : k * c.args.stride ≤ (c.args.blocks - 1) * c.args.stride = mul-le-mul_right c.args.stride (omega arith) in omega (arith, far, c.requires.inside))).0
+    (λ k h. let far : k * c.args.stride ≤ (c.args.blocks - 1) * c.args.stride = mul-le-mul_right c.args.stride (omega arith) in omega (arith, far, c.requires.inside))).0

@@ -15,6 +15,6 @@ joined-requires c =
 pub returns : goal.returns
 returns c =
     let all : c.extend_from_slice.new.self.items ≡ c.self.inside.runs.items ++ c.other.inside.runs.items =
-      rw (c.in_ok-extend_from_slice.ensures.items, c.in_ok-intervals.ensures.items, c.as_slice.ensures.value, c.as_slice-2.ensures.value) in
+    rw (c.in_ok-extend_from_slice.ensures.items, c.in_ok-intervals.ensures.items, c.as_slice.ensures.value, c.as_slice-2.ensures.value) in
     rw (← c.self.view_is, ← c.other.view_is)
     (c.of_runs.ensures ∙ same_union c.in_ok-runs.runs.items c.extend_from_slice.new.self.items c.in_ok-runs.ensures.same ∙ ap union_of all ∙ union_of-append c.self.inside.runs.items c.other.inside.runs.items)
