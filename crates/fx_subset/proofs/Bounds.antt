@@ -1,5 +1,5 @@
 -- Where the indices of blocks and of pairs end, against the length of an array.
-use Rattle.std.proofs.Common.{◌≡◌, ℕ, zero, suc, ◌+◌, ◌-◌, ◌*◌, ◌<◌, ◌≤◌, Bool, true, false, IsTrue, ◌&&◌, ◌||◌, ◌==◌, nat_lt, nat_le, Option, None, Some, List, [], ◌∷◌, length, refl, sym, ap, ◌∙◌, subst, arith}
+use Rattle.std.proofs.Common.{◌≡◌, ℕ, zero, suc, ◌+◌, ◌-◌, ◌*◌, ◌<◌, ◌≤◌, Bool, true, false, IsTrue, ◌||◌, nat_lt, nat_le, None, Some, List, [], ◌∷◌, refl, sym, ap, ◌∙◌, arith}
 use Rattle.std.specs.List.{list_any}
 use Rattle.std.specs.FinSet as set
 use Rattle.std.proofs.Math.Nat.{mul-le-mul_right}
@@ -7,9 +7,8 @@ use Rattle.std.proofs.lemmas.Bool.{or_parts}
 use Rattle.std.proofs.lemmas.Bool.Decides.{nat_tests}
 use Rattle.std.proofs.lemmas.List.Folds.{list_any-append}
 use Rattle.fx_subset.specs.Indices.{HasIndexFrom, is_between, is_covered, blocks_of, union_of}
-use Rattle.fx_subset.specs.Fault.{first_that_holds, fault_of_blocks, fault_of_pairs}
-use Rattle.fx_subset.specs.declared.fault.SubsetFault.{SubsetFault}
-use Rattle.fx_subset.specs.declared.fault.SubsetFault.TheVariants.{NoBlocks, EndBeforeStart, ZeroStride, Outside}
+use Rattle.fx_subset.specs.Fault.{fault_of_blocks, fault_of_pairs}
+use Rattle.fx_subset.specs.declared.fault.SubsetFault.TheVariants.{Outside}
 use Rattle.fx_subset.proofs.Cover.{contains-union_of}
 
 below_step : (first end q len : ℕ) (a : Bool) → (a ≡ true → q < len) → end < len → (a || (is_between (first, end) q || false)) ≡ true → q < len

@@ -1,5 +1,5 @@
 -- When no subset is made, by the numbers alone.
-use Rattle.std.specs.Prelude.{◌≡◌, refl, ℕ, ◌+◌, ◌-◌, ◌*◌, Bool, true, false, cond, ◌&&◌, ◌==◌, nat_le, nat_lt, List, [], ◌∷◌, length, Option, None, Some, Result, Ok, Err}
+use Rattle.std.specs.Prelude.{◌≡◌, refl, ℕ, ◌+◌, ◌-◌, ◌*◌, Bool, cond, ◌&&◌, ◌==◌, nat_le, nat_lt, List, [], ◌∷◌, length, Option, None, Some, Result, Ok, Err}
 use Rattle.std.specs.List.{list_any}
 use Rattle.fx_subset.specs.declared.fault.SubsetFault.{SubsetFault}
 use Rattle.fx_subset.specs.declared.fault.SubsetFault.TheVariants.{NoBlocks, EndBeforeStart, ZeroStride, Outside}

@@ -1,4 +1,4 @@
-use Rattle.std.proofs.Common.{◌≡◌, None, Some, sym, ap, ◌∙◌, rules, arith}
+use Rattle.std.proofs.Common.{◌≡◌, None, Some, sym, ap, ◌∙◌, rules}
 use Rattle.fx_subset.specs.Indices.{blocks_of}
 use Rattle.fx_subset.specs.Fault.{fault_of_blocks}
 use Rattle.fx_subset.specs.declared.fault.SubsetFault.TheVariants.{Outside}

@@ -1,4 +1,4 @@
-use Rattle.std.proofs.Common.{◌≡◌, ◌<◌, ◌≤◌, length, nat_lt, nat_le, ap, ◌∙◌, ltb-true, ltb-false, sym, rules, arith}
+use Rattle.std.proofs.Common.{◌<◌, ◌≤◌, length, nat_lt, nat_le, ap, ◌∙◌, ltb-true, ltb-false, sym, rules, arith}
 use Rattle.std.proofs.lemmas.List.Sorted.{IsPartitionPoint-from_clause, IsPartitionedBy-ltb}
 use Rattle.fx_subset.proofs.Found.{covered_past, covered_at, ends_rise}
 use Rattle.fx_subset.proofs.runs.covers.Goals as goal

@@ -1,9 +1,8 @@
-use Rattle.std.proofs.Common.{◌≡◌, ℕ, List, IfOk, All, rules, sym, ap, ◌∙◌, subst}
-use Rattle.std.specs.List.{list_any}
+use Rattle.std.proofs.Common.{rules, sym, ap, ◌∙◌}
 use Rattle.std.proofs.lemmas.Result.{IfOk-weaker}
 use Rattle.std.proofs.lemmas.List.Sorted.{All-permutation, list_any-IsPermutation, IsNonDecreasingBy-from_sort_by_key}
 use Rattle.fx_subset.specs.Indices.{is_between, is_covered}
-use Rattle.fx_subset.specs.Runs.{IsWhole, AreInOrder}
+use Rattle.fx_subset.specs.Runs.{IsWhole}
 use Rattle.fx_subset.proofs.Apart.{in_order}
 use Rattle.fx_subset.proofs.runs.joined.Goals as goal
 

@@ -1,5 +1,5 @@
-use Rattle.std.proofs.Common.{◌≡◌, ℕ, List, ◌+◌, ◌-◌, ◌<◌, length, get_or, drop, take, add-one, drop-cons, subst, arith}
-use Rattle.fx_subset.proofs.Apart.{Grows, grows_join_at, grows_close_at, apart_push}
+use Rattle.std.proofs.Common.{ℕ, List, ◌-◌, length, drop, take, arith}
+use Rattle.fx_subset.proofs.Apart.{grows_join_at, grows_close_at, apart_push}
 use Rattle.fx_subset.proofs.runs.joined_in_order.Goals as goal
 use Rattle.fx_subset.proofs.runs.joined_in_order.Goals.{then-next-last, else-next-last+in_ok-push}
 

@@ -1,8 +1,7 @@
-use Rattle.std.proofs.Common.{◌≡◌, ℕ, suc, zero, ◌+◌, ◌-◌, ◌*◌, ◌<◌, ◌≤◌, List, [], ◌∷◌, ◌++◌, IfOk, add-one, refl, sym, ap, ◌∙◌, arith}
+use Rattle.std.proofs.Common.{◌≡◌, ◌-◌, ◌*◌, ◌≤◌, add-one, refl, sym, ap, ◌∙◌, arith}
 use Rattle.std.proofs.Math.Nat.{mul-le-mul_right}
 use Rattle.std.proofs.lemmas.Result.{IfOk-weaker}
-use Rattle.fx_subset.specs.Indices.{is_between, is_covered, blocks_of}
-use Rattle.fx_subset.specs.Runs.{AreApart}
+use Rattle.fx_subset.specs.Indices.{is_covered, blocks_of}
 use Rattle.fx_subset.proofs.Apart.{blocks_apart, blocks_cover_one}
 use Rattle.fx_subset.proofs.runs.runs_of_blocks.Goals as goal
 

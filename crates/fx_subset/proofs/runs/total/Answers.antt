@@ -1,5 +1,4 @@
-use Rattle.std.proofs.Common.{◌≡◌, ◌+◌, ◌-◌, ◌<◌, ◌≤◌, length, get_or, drop, arith}
-use Rattle.fx_subset.specs.Runs.{total_of}
+use Rattle.std.proofs.Common.{arith}
 use Rattle.fx_subset.proofs.Count.{apart_at, total_at, total_fits}
 use Rattle.fx_subset.proofs.runs.total.Goals as goal
 

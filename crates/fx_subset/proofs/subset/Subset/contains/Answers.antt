@@ -1,4 +1,4 @@
-use Rattle.std.proofs.Common.{rules, sym}
+use Rattle.std.proofs.Common.{rules}
 use Rattle.fx_subset.proofs.Cover.{contains-union_of}
 use Rattle.fx_subset.proofs.subset.Subset.contains.Goals as goal
 

@@ -1,4 +1,4 @@
-use Rattle.std.proofs.Common.{rules, ◌∙◌}
+use Rattle.std.proofs.Common.{rules}
 use Rattle.fx_subset.proofs.Count.{len-union_of}
 use Rattle.fx_subset.proofs.subset.Subset.count.Goals as goal
 
