@@ -1,0 +1,5 @@
+pub mod Apart
+pub mod Bounds
+pub mod Count
+pub mod Cover
+pub mod Found

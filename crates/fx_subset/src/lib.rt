@@ -1,0 +1,14 @@
+//! Sets of indices of an array, given by whole intervals.
+#![tactic(auto)]
+
+mod fault;
+mod make;
+mod runs;
+mod subset;
+
+pub use fault::{MakeSubset, SubsetFault};
+pub use make::{empty, full, ranges, strided};
+pub use subset::Subset;
+
+#[cfg(test)]
+mod tests;
