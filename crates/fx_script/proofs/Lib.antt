@@ -1,3 +1,10 @@
 pub mod LineSteps
+pub mod FieldLemmas
+pub mod ExprLemmas
+pub mod PickedLemmas
+pub mod SimpleLemmas
+pub mod HeadLemmas
+pub mod SoFar
+pub mod Adds
 pub mod ExprSteps
 pub mod PairSteps

@@ -13,3 +13,4 @@ pub mod Stands
 pub mod Moves
 pub mod Reading
 pub mod Answers
+pub mod Spelling
