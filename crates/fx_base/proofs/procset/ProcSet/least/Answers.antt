@@ -1,0 +1,12 @@
+use Rattle.std.proofs.Common.{◌≡◌, ◌<◌, sym, ◌∙◌, ap, arith}
+use Rattle.fx_base.specs.Sets.{bits_below}
+use Rattle.fx_base.proofs.Bits.{zero_is_empty, trailing_is_least}
+use Rattle.fx_base.proofs.procset.ProcSet.least.Goals as goal
+
+pub returns-then-self-eq0-clause-none : goal.returns-then-self-eq0-clause-none
+returns-then-self-eq0-clause-none c = sym c.self.view_is ∙ ap (λ b. bits_below b 32) c.if-self-eq0.true ∙ zero_is_empty
+
+pub returns-clause-least : goal.returns-clause-least
+returns-clause-least c =
+    let some : 0 < c.self.inside.bits = omega arith in
+    rw (← c.self.view_is) (trailing_is_least c.self.inside.bits some c.self.invariant)
