@@ -1,6 +1,6 @@
 -- What a search finds among entries in rising key, and what an edit at that place does.
-use Rattle.std.proofs.Common.{◌≡◌, ℕ, suc, zero, ◌≤◌, ◌<◌, Bool, true, false, not, ◌&&◌, T, List, [], ◌∷◌, length, Some, None, Option, refl, sym, ap, ◌∙◌, subst, arith, slice_get, slice_set, IsTrue}
-use Rattle.std.proofs.Common.{inl, inr, ◌⊎◌}
+use Rattle.std.proofs.Common.{◌≡◌, ℕ, suc, zero, ◌≤◌, ◌<◌, Bool, true, false, not, ◌&&◌, T, List, [], ◌∷◌, length, Some, None, refl, sym, ap, ◌∙◌, subst, arith, slice_get, slice_set, IsTrue}
+use Rattle.std.proofs.Common.{inl, inr}
 use Rattle.std.proofs.lemmas.Option.{slice_get_cases}
 use Rattle.std.specs.List.{insert, remove}
 use Rattle.std.specs.Ordering.{eq_by_cmp, ordering_reverse, is_lt}
@@ -103,8 +103,9 @@ module _ {K X : Type 0} (R : K → K → Ordering) where
     gap_between key (e ∷ es) (suc (suc i)) s le above below =
         elim (slice_get_cases es i).1 [
           | inl x ↦ (
-              above_lesser o key x.0.0 e.0 (below_entry e.0 es i x.0 (both_parts _ _ s).0 x.2) (above (suc i) x.0 refl x.2),
-              gap_between key es (suc i) (both_parts _ _ s).1 (omega arith) (λ j f at t. above (suc j) f (ap suc at) t) below)
+            above_lesser o key x.0.0 e.0 (below_entry e.0 es i x.0 (both_parts _ _ s).0 x.2) (above (suc i) x.0 refl x.2),
+            gap_between key es (suc i) (both_parts _ _ s).1 (omega arith) (λ j f at t. above (suc j) f (ap suc at) t) below,
+          )
           | inr x ↦ absurd (omega (arith, x.0))
         ]
 

@@ -1,5 +1,5 @@
 -- What the edits of a list of entries in rising key are to the finite map that it is seen as.
-use Rattle.std.proofs.Common.{◌≡◌, ℕ, Bool, true, false, cond, not, T, List, [], length, Some, None, Option, refl, sym, ap, ◌∙◌, IsTrue}
+use Rattle.std.proofs.Common.{◌≡◌, Bool, true, false, cond, not, T, List, [], length, None, refl, sym, ap, ◌∙◌, IsTrue}
 use Rattle.std.specs.Ordering.{eq_by_cmp, is_eq}
 use Rattle.std.specs.Cmp.{IsTotalOrder, alike_right, eq_by_cmp_equiv}
 use Rattle.std.specs.FinMap.{FinMap, IsAntisymmetric, is_sorted, find, put, entries, from_sorted, empty, len, get, insert, remove, entries-from_sorted, len-entries, empty_of_len, same_entries_map, entries-insert, get-from_sorted, get-remove, same_map}
@@ -42,9 +42,9 @@ module _ {K X : Type 0} (R : K → K → Ordering) where
     pub take_is_remove : IsAntisymmetric R → (es : List (K × X)) (k : K) → IsTrue (is_sorted R es) → from_sorted {R = R} (where_key R (λ x. not (eq_by_cmp R k x)) es) ≡ remove (from_sorted es) k
     take_is_remove same es k h =
         same_map o same _ _ (λ q.
-          get_of (where_key R (λ x. not (eq_by_cmp R k x)) es) q (take_keeps _ es h)
-          ∙ find-where_key R (λ x. not (eq_by_cmp R k x)) q (λ x t. ap (λ r. not (is_eq r)) (sym (alike_right o q x k t))) es
-          ∙ turned (eq_by_cmp R k q) _ _
-          ∙ ap (λ b. cond b None (find R q es)) ((eq_by_cmp_equiv o).symm k q)
-          ∙ ap (λ found. cond (eq_by_cmp R q k) None found) (sym (get_of es q h))
-          ∙ sym (get-remove o (from_sorted es) k q))
+        get_of (where_key R (λ x. not (eq_by_cmp R k x)) es) q (take_keeps _ es h)
+        ∙ find-where_key R (λ x. not (eq_by_cmp R k x)) q (λ x t. ap (λ r. not (is_eq r)) (sym (alike_right o q x k t))) es
+        ∙ turned (eq_by_cmp R k q) _ _
+        ∙ ap (λ b. cond b None (find R q es)) ((eq_by_cmp_equiv o).symm k q)
+        ∙ ap (λ found. cond (eq_by_cmp R q k) None found) (sym (get_of es q h))
+        ∙ sym (get-remove o (from_sorted es) k q))

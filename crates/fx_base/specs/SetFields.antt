@@ -1,5 +1,5 @@
--- A set of processes has the members that its bits say, and gives its number back.
-use Rattle.std.proofs.Common.{◌≡◌, ◌≢◌, ℕ, ◌+◌, ◌*◌, ◌/◌, ◌%◌, ◌^◌, ◌<◌, ◌≤◌, zero, suc, Bool, true, false, cond, ◌||◌, ◌==◌, refl, sym, ap, ◌∙◌, subst, inl, inr}
+-- A set of processes has the members that pass its test, and gives its number back.
+use Rattle.std.proofs.Common.{◌≡◌, ◌≢◌, ℕ, ◌+◌, ◌*◌, ◌%◌, ◌^◌, ◌<◌, ◌≤◌, zero, suc, Bool, true, false, cond, ◌||◌, ◌==◌, refl, sym, ap, ◌∙◌, subst, inl, inr}
 use Rattle.std.specs.Int.{bit_at}
 use Rattle.std.specs.Ordering.{nat_cmp, eq_by_cmp}
 use Rattle.std.specs.Cmp.{nat_cmp_total, unsigned_tied}
@@ -9,11 +9,7 @@ use Rattle.std.proofs.lemmas.Nat.{mod-pow-add}
 use Rattle.std.proofs.lemmas.Nat.Bits.{bit_at-lt}
 use Rattle.std.proofs.Math.Nat.{le_of_lt, le_of_suc-le-suc, le_refl, lt-suc_self, mod-one, mod-eq_of_lt, zero-mul, one-mul, add_comm, not-suc-le-zero, ne_of_lt, lt_trans}
 use Rattle.std.proofs.Math.Numerals.{lt_of_le_of_ne, one-add}
-use Rattle.fx_base.specs.Sets.{bits_below, number_with}
-
--- whether a number has a bit at a place
-abbrev pub has_bit : ℕ → ℕ → Bool
-has_bit bits m = bit_at bits m == 1
+use Rattle.fx_base.specs.Sets.{set_below, number_with, has_bit}
 
 none_either : (b : Bool) → (cond b false false || false) ≡ false
 none_either true = refl
@@ -39,36 +35,37 @@ digit zero x below = sym (zero-mul x)
 digit (suc zero) x below = sym (one-mul x)
 digit (suc (suc d)) x below = absurd (not-suc-le-zero (le_of_suc-le-suc (le_of_suc-le-suc below)))
 
-module _ (bits : ℕ) where
+module _ (has : ℕ → Bool) where
   -- what the last number adds
-  last_of : (n m : ℕ) (b : Bool) → set.contains (cond b (set.insert (bits_below bits n) n) (bits_below bits n)) m ≡ (cond b (eq_by_cmp nat_cmp m n) false || set.contains (bits_below bits n) m)
-  last_of n m true = set.contains-insert nat_cmp_total (bits_below bits n) n m
+  last_of : (n m : ℕ) (b : Bool) → set.contains (cond b (set.insert (set_below has n) n) (set_below has n)) m ≡ (cond b (eq_by_cmp nat_cmp m n) false || set.contains (set_below has n) m)
+  last_of n m true = set.contains-insert nat_cmp_total (set_below has n) n m
   last_of n m false = refl
 
-  pub past_bits : (n m : ℕ) → n ≤ m → set.contains (bits_below bits n) m ≡ false
-  unfolding bits_below
-  past_bits zero m past = set.contains-empty nat_cmp m
-  past_bits (suc n) m past =
+  pub past_set : (n m : ℕ) → n ≤ m → set.contains (set_below has n) m ≡ false
+  unfolding set_below
+  past_set zero m past = set.contains-empty nat_cmp m
+  past_set (suc n) m past =
       let apart : eq_by_cmp nat_cmp m n ≡ false = other m n (λ e. ne_of_lt past (sym e)) in
-      let before : set.contains (bits_below bits n) m ≡ false = past_bits n m (le_of_lt past) in
-      last_of n m (has_bit bits n) ∙ (λ i. cond (has_bit bits n) (apart i) false || before i) ∙ none_either (has_bit bits n)
+      let before : set.contains (set_below has n) m ≡ false = past_set n m (le_of_lt past) in
+      last_of n m (has n) ∙ (λ i. cond (has n) (apart i) false || before i) ∙ none_either (has n)
 
-  -- a number below n is in the set exactly where the bit is there
-  pub in_bits : (n m : ℕ) → m < n → set.contains (bits_below bits n) m ≡ has_bit bits m
-  unfolding bits_below
-  in_bits zero m below = absurd (not-suc-le-zero below)
-  in_bits (suc n) m below =
+  -- a number below n is in the set exactly where it passes
+  pub in_set : (n m : ℕ) → m < n → set.contains (set_below has n) m ≡ has m
+  unfolding set_below
+  in_set zero m below = absurd (not-suc-le-zero below)
+  in_set (suc n) m below =
       elim (cases_eq m n) [
         | inl same ↦
             let tie : eq_by_cmp nat_cmp m n ≡ true = ap (λ k. eq_by_cmp nat_cmp k n) same ∙ itself n in
-            let before : set.contains (bits_below bits n) m ≡ false = past_bits n m (subst (λ k. n ≤ k) (sym same) (le_refl n)) in
-            last_of n m (has_bit bits n) ∙ (λ i. cond (has_bit bits n) (tie i) false || before i) ∙ whether (has_bit bits n) ∙ ap (has_bit bits) (sym same)
+            let before : set.contains (set_below has n) m ≡ false = past_set n m (subst (λ k. n ≤ k) (sym same) (le_refl n)) in
+            last_of n m (has n) ∙ (λ i. cond (has n) (tie i) false || before i) ∙ whether (has n) ∙ ap has (sym same)
         | inr differs ↦
             let apart : eq_by_cmp nat_cmp m n ≡ false = other m n differs in
-            let before : set.contains (bits_below bits n) m ≡ has_bit bits m = in_bits n m (lt_of_le_of_ne (le_of_suc-le-suc below) differs) in
-            last_of n m (has_bit bits n) ∙ (λ i. cond (has_bit bits n) (apart i) false || before i) ∙ none_or (has_bit bits n) (has_bit bits m)
+            let before : set.contains (set_below has n) m ≡ has m = in_set n m (lt_of_le_of_ne (le_of_suc-le-suc below) differs) in
+            last_of n m (has n) ∙ (λ i. cond (has n) (apart i) false || before i) ∙ none_or (has n) (has m)
       ]
 
+module _ (bits : ℕ) where
   number_below : (n : ℕ) (has : ℕ → Bool) → ((m : ℕ) → m < n → has m ≡ has_bit bits m) → number_with has n ≡ bits % 2 ^ n
   unfolding number_with
   number_below zero has same = sym (mod-one bits)
@@ -77,5 +74,5 @@ module _ (bits : ℕ) where
       let last : cond (has n) (2 ^ n) 0 ≡ bit_at bits n * 2 ^ n = ap (λ b. cond b (2 ^ n) 0) (same n (lt-suc_self n)) ∙ digit (bit_at bits n) (2 ^ n) (bit_at-lt bits n) in
       (λ i. before i + last i) ∙ add_comm (bits % 2 ^ n) (bit_at bits n * 2 ^ n) ∙ sym (mod-pow-add bits 1 n) ∙ ap (λ k. bits % 2 ^ k) (one-add n)
 
-  pub number_again : bits < 2 ^ 32 → number_with (set.contains (bits_below bits 32)) 32 ≡ bits
-  number_again within = number_below 32 (set.contains (bits_below bits 32)) (in_bits 32) ∙ mod-eq_of_lt within
+  pub number_again : bits < 2 ^ 32 → number_with (set.contains (set_below (has_bit bits) 32)) 32 ≡ bits
+  number_again within = number_below 32 (set.contains (set_below (has_bit bits) 32)) (in_set (has_bit bits) 32) ∙ mod-eq_of_lt within

@@ -82,7 +82,11 @@ fn place_of<K: Key, V>(entries: &[(K, V)], key: K) -> Result<usize, usize>
 }
 
 /// Puts the value at the key, in the place of what was there. Without memory nothing changes.
-pub(crate) fn put_entry<K: Key, V: Drop>(entries: &mut Vec<(K, V)>, key: K, value: V) -> Result<(), NoMemory>
+pub(crate) fn put_entry<K: Key, V: Drop>(
+    entries: &mut Vec<(K, V)>,
+    key: K,
+    value: V,
+) -> Result<(), NoMemory>
     requires { IsTrue (is_sorted K.order entries.old.items) }
     ensures ok { OnOk result (entries.new.items ≡ put K.order key value entries.old.items) }
     ensures no_memory { OnErr result (entries.new.items ≡ entries.old.items) }
@@ -128,7 +132,10 @@ pub(crate) fn entry_at<K: Key, V>(entries: &[(K, V)], k: usize) -> Option<(K, &V
 }
 
 /// An equal list.
-pub(crate) fn copy_entries<K: Key, V: Copied>(alloc: Global, entries: &[(K, V)]) -> Result<Vec<(K, V)>, NoMemory>
+pub(crate) fn copy_entries<K: Key, V: Copied>(
+    alloc: Global,
+    entries: &[(K, V)],
+) -> Result<Vec<(K, V)>, NoMemory>
     ensures { IfOk result (λ copy. copy.items ≡ entries.now) }
 {
     let mut copy = Vec::new(alloc);

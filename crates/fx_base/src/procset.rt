@@ -15,7 +15,7 @@ impl Model for ProcSet {
     ghost use Rattle.std.specs.Ordering.{nat_cmp};
     ghost use Rattle.std.specs.FinSet as set;
     ghost use Rattle.std.specs.Coded.{coded_ℕ};
-    ghost use Rattle.fx_base.specs.Sets.{bits_below, number_with};
+    ghost use Rattle.fx_base.specs.Sets.{set_below, has_bit, number_with};
     ghost use Rattle.std.proofs.Common.{ap};
     ghost use Rattle.fx_base.specs.SetFields.{number_again};
 
@@ -23,7 +23,7 @@ impl Model for ProcSet {
 
     ghost coded = { set.code coded_ℕ };
 
-    ghost view = { λ s. bits_below s.bits 32 };
+    ghost view = { λ s. set_below (has_bit s.bits) 32 };
 
     ghost invariant = { λ s. s.bits < 2 ^ 32 };
 
@@ -37,9 +37,7 @@ impl ProcSet {
     pub fn new() -> ProcSet
         ensures { result ≡ set.empty }
     {
-        ProcSet {
-            bits: 0,
-        }
+        ProcSet { bits: 0 }
     }
 
     /// Adds a number from 0 to 31.

@@ -59,8 +59,14 @@ fn snapshots_hold_members(rt: HostRuntime) -> Result<(), Fail> {
     snapshot.put(MemberId(1), Sparse::new(rt.alloc()))?;
     let copy = snapshot.copy()?;
     assert_eq!(rt; copy.len(), 2);
-    assert_eq!(rt; copy.nth(0).map(|(member, held)| (member, held.len())), Some((MemberId(1), 0)));
-    assert_eq!(rt; copy.nth(1).map(|(member, held)| (member, held.len())), Some((MemberId(6), 1)));
+    assert_eq!(rt;
+        copy.nth(0).map(|(member, held)| (member, held.len())),
+        Some((MemberId(1), 0))
+    );
+    assert_eq!(rt;
+        copy.nth(1).map(|(member, held)| (member, held.len())),
+        Some((MemberId(6), 1))
+    );
     assert!(rt; copy.nth(2).is_none() && copy.get(MemberId(0)).is_none());
     Ok(())
 }
@@ -78,7 +84,10 @@ fn shares_lose_a_stamp(rt: HostRuntime) -> Result<(), Fail> {
     let copy = shares.copy()?;
     assert_eq!(rt; copy.len(), 2);
     assert_eq!(rt; copy.nth(0).map(|(stamp, _)| stamp), Some(Stamp(-1)));
-    assert_eq!(rt; copy.nth(1).map(|(stamp, bytes)| (stamp, bytes.len())), Some((Stamp(5), 2)));
+    assert_eq!(rt;
+        copy.nth(1).map(|(stamp, bytes)| (stamp, bytes.len())),
+        Some((Stamp(5), 2))
+    );
     assert!(rt; copy.get(Stamp(3)).is_none());
     Ok(())
 }

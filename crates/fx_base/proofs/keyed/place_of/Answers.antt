@@ -1,7 +1,6 @@
 use Rattle.std.proofs.Common.{◌≡◌, ◌<◌, ◌+◌, ◌-◌, ◌/◌, length, refl, arith}
-use Rattle.std.specs.declared.cmp.Ordering.TheVariants.{Equal, Greater}
 use Rattle.std.proofs.lemmas.Option.{slice_get_read}
-use Rattle.fx_base.proofs.Entries.{holds, place_at, above_read, below_read, gap_between, gap_within}
+use Rattle.fx_base.proofs.Entries.{holds, place_at, above_read, gap_between}
 use Rattle.fx_base.proofs.keyed.place_of.Goals as goal
 
 -- the entry in the middle ties

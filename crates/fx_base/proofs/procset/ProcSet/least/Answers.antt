@@ -1,10 +1,10 @@
-use Rattle.std.proofs.Common.{◌≡◌, ◌<◌, sym, ◌∙◌, ap, arith}
-use Rattle.fx_base.specs.Sets.{bits_below}
+use Rattle.std.proofs.Common.{◌<◌, sym, ◌∙◌, ap, arith}
+use Rattle.fx_base.specs.Sets.{set_below, has_bit}
 use Rattle.fx_base.proofs.Bits.{zero_is_empty, trailing_is_least}
 use Rattle.fx_base.proofs.procset.ProcSet.least.Goals as goal
 
 pub returns-then-self-eq0-clause-none : goal.returns-then-self-eq0-clause-none
-returns-then-self-eq0-clause-none c = sym c.self.view_is ∙ ap (λ b. bits_below b 32) c.if-self-eq0.true ∙ zero_is_empty
+returns-then-self-eq0-clause-none c = sym c.self.view_is ∙ ap (λ b. set_below (has_bit b) 32) c.if-self-eq0.true ∙ zero_is_empty
 
 pub returns-clause-least : goal.returns-clause-least
 returns-clause-least c =
