@@ -81,9 +81,10 @@ impl ProcSet {
         self.bits.count_ones() as u8
     }
 
-    /// The least member; `None` exactly where the set is empty.
+    /// The least member, which is below 32; `None` exactly where the set is empty.
     pub fn least(&self) -> Option<u8>
         ensures least { IfSome result (IsLeastOf self.now) }
+        ensures below { IfSome result (λ n. n < 32) }
         ensures none { IfNone result (self.now ≡ set.empty) }
     {
         if self.bits == 0 {

@@ -1,5 +1,5 @@
 use super::*;
-use fx_base::{Copied, Elems, Epoch, Proc, Seats, Seq, Stamp, StampShares, Stamps};
+use fx_base::{CallNo, Epoch, Proc, Seats, Stamp, Stamps};
 use std::alloc::Global;
 use std::test::Fail;
 
@@ -48,18 +48,31 @@ fn closing_one_link_leaves_the_others(rt: HostRuntime) -> Result<(), Fail> {
     Ok(())
 }
 
+/// The next stamp of a `tell`, and the first of those retained.
+fn told(message: &Message) -> Option<(Stamp, Option<Stamp>)> {
+    match message {
+        Message::Tell {
+            known: Some(known), ..
+        } => Some((known.next, known.stamps.nth(0).copied())),
+        _ => None,
+    }
+}
+
 #[test]
 fn a_message_is_copied(rt: HostRuntime) -> Result<(), Fail> {
     let mut stamps = Stamps::new(rt.alloc());
     stamps.push(Stamp(7))?;
-    let known = Known { created: Epoch(2), next: Stamp(8), comm: Seats::new(rt.alloc()), stamps };
-    let tell = Message::Tell { e: Epoch(3), k: fx_base::CallNo(4), known: Some(known) };
-    match tell.copy()? {
-        Message::Tell { known: Some(copy), .. } => {
-            assert_eq!(rt; (copy.created, copy.next), (Epoch(2), Stamp(8)));
-            assert_eq!(rt; copy.stamps.nth(0).copied(), Some(Stamp(7)));
-        }
-        _ => return Err(Fail),
-    }
+    let known = Known {
+        created: Epoch(2),
+        next: Stamp(8),
+        comm: Seats::new(rt.alloc()),
+        stamps,
+    };
+    let tell = Message::Tell {
+        e: Epoch(3),
+        k: CallNo(4),
+        known: Some(known),
+    };
+    assert_eq!(rt; told(&tell.copy()?), Some((Stamp(8), Some(Stamp(7)))));
     Ok(())
 }

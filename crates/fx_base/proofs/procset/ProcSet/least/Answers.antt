@@ -1,3 +1,5 @@
+use Rattle.std.specs.Int.{w32}
+use Rattle.std.proofs.lemmas.Nat.Bits.{bit_at-trailing_zeros}
 use Rattle.std.proofs.Common.{◌<◌, sym, ◌∙◌, ap, arith}
 use Rattle.fx_base.specs.Sets.{set_below, has_bit}
 use Rattle.fx_base.proofs.Bits.{zero_is_empty, trailing_is_least}
@@ -10,3 +12,8 @@ pub returns-clause-least : goal.returns-clause-least
 returns-clause-least c =
     let some : 0 < c.self.inside.bits = omega arith in
     rw (← c.self.view_is) (trailing_is_least c.self.inside.bits some c.self.invariant)
+
+pub returns-clause-below : goal.returns-clause-below
+returns-clause-below c =
+    let some : 0 < c.self.inside.bits = omega arith in
+    (bit_at-trailing_zeros w32 c.self.inside.bits some c.self.invariant).0
