@@ -31,6 +31,14 @@ IsGapFor R key [] at = at ≡ 0
 IsGapFor R key (e ∷ es) zero = R key e.0 ≡ Less
 IsGapFor R key (e ∷ es) (suc at) = (R key e.0 ≡ Greater) × IsGapFor R key es at
 
+-- where 7 stands, and where 5 would go, between the keys 2 and 7
+
+seven_stands : IsPlaceOf {X = ℕ} nat_cmp 7 ((2, 20) ∷ (7, 70) ∷ []) 1
+seven_stands = (refl, refl)
+
+five_would_go : IsGapFor {X = ℕ} nat_cmp 5 ((2, 20) ∷ (7, 70) ∷ []) 1
+five_would_go = (refl, refl)
+
 -- a member and a stamp are stored as their numbers
 
 abbrev pub member_code : Coded MemberId

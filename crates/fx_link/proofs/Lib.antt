@@ -1,1 +1,2 @@
+pub mod LinkFacts
 pub mod Tables

@@ -1,6 +1,7 @@
 //! What the processes send to one another, and the links that carry it.
 #![tactic(auto)]
 
+pub mod laws;
 mod links;
 mod message;
 mod queue;
