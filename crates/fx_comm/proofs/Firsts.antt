@@ -1,7 +1,7 @@
 -- The first communicator is one.
-use Rattle.std.proofs.Common.{◌≡◌, ℕ, ◌+◌, ◌<◌, ◌≤◌, zero, suc, Bool, true, false, ◌||◌, ◌==◌, List, [], ◌∷◌, length, refl, sym, ap, ◌∙◌, arith}
+use Rattle.std.proofs.Common.{◌≡◌, ℕ, ◌+◌, ◌<◌, ◌≤◌, zero, suc, false, [], ◌∷◌, length, refl, arith}
 use Rattle.std.proofs.lemmas.Bool.{ne_eqb}
-use Rattle.fx_comm.specs.Seats.{Seat, seat, seats_from, first_seats, has_place, RiseAbove, IdentsRise, NoTwoPlaces, AllBelow32, IsComm}
+use Rattle.fx_comm.specs.Seats.{seat, seats_from, first_seats, has_place, RiseAbove, IdentsRise, NoTwoPlaces, AllBelow32, IsComm}
 
 length_from : (next n : ℕ) → length (seats_from next n) ≡ n
 unfolding seats_from

@@ -1,7 +1,6 @@
 -- Lists of the numbers below a bound that pass a test.
 use Rattle.std.proofs.Common.{◌≡◌, ℕ, ◌+◌, ◌<◌, ◌≤◌, zero, suc, Bool, true, false, cond, not, ◌&&◌, ◌||◌, ◌==◌, ◌⊎◌, inl, inr, List, [], ◌∷◌, ◌++◌, length, length-append, refl, sym, ap, ◌∙◌, arith, true≢false, append-nil}
-use Rattle.std.proofs.lemmas.Bool.{eq-eqb, ne_eqb, eqb-true, cases_eq, cases_lt}
-
+use Rattle.std.proofs.lemmas.Bool.{eq-eqb, ne_eqb, cases_eq}
 use Rattle.fx_base.specs.Sets.{those_below}
 
 pub tells : (b : Bool) → (b ≡ true) ⊎ (b ≡ false)
@@ -64,9 +63,10 @@ module _ (f : ℕ → Bool) where
 
 apart_more : (xs : List ℕ) (n : ℕ) → IsApart xs → is_in n xs ≡ false → IsApart (xs ++ n ∷ [])
 apart_more [] n apart new = (refl, tt)
-apart_more (x ∷ xs) n apart new =
-    (is_in-append x xs (n ∷ []) ∙ either_false _ _ apart.0 (either_false _ _ (other_way x n (first_false _ _ new)) refl),
-     apart_more xs n apart.1 (second_false _ _ new))
+apart_more (x ∷ xs) n apart new = (
+  is_in-append x xs (n ∷ []) ∙ either_false _ _ apart.0 (either_false _ _ (other_way x n (first_false _ _ new)) refl),
+  apart_more xs n apart.1 (second_false _ _ new),
+)
   where
     other_way : (a b : ℕ) → (a == b) ≡ false → (b == a) ≡ false
     other_way a b e = ne_eqb b a (λ same. true≢false (sym (eq-eqb a b (sym same)) ∙ e))
@@ -150,10 +150,10 @@ count_one f k zero within = absurd (omega arith)
 count_one f k (suc n) within =
     count_more (λ m. f m && (k == m)) n
     ∙ elim (cases_eq k n) [
-        | inl same ↦ rw (← same, eq-eqb k k refl, both_true (f k)) (
-            rw (those_none (λ m. f m && (k == m)) k (λ m below. rw (ne_eqb k m (λ e. omega arith)) (both_false (f m)))) (omega arith))
-        | inr apart ↦ rw (ne_eqb k n apart, both_false (f n), count_one f k n (omega arith)) (omega arith)
-      ]
+      | inl same ↦ rw (← same, eq-eqb k k refl, both_true (f k)) (
+          rw (those_none (λ m. f m && (k == m)) k (λ m below. rw (ne_eqb k m (λ e. omega arith)) (both_false (f m)))) (omega arith))
+      | inr apart ↦ rw (ne_eqb k n apart, both_false (f n), count_one f k n (omega arith)) (omega arith)
+    ]
 
 -- ---- all below the bound
 

@@ -1,9 +1,9 @@
 -- What a repair does to the seats of a communicator.
-use Rattle.std.proofs.Common.{◌≡◌, ℕ, ◌+◌, ◌<◌, ◌≤◌, min, zero, suc, Bool, true, false, cond, not, ◌&&◌, ◌||◌, ◌==◌, ◌⊎◌, inl, inr, List, [], ◌∷◌, ◌++◌, length, refl, sym, ap, ◌∙◌, arith, true≢false}
-use Rattle.std.proofs.lemmas.Bool.{eq-eqb, ne_eqb, eqb-true, cases_eq}
+use Rattle.std.proofs.Common.{◌≡◌, ℕ, ◌+◌, ◌<◌, ◌≤◌, min, Bool, true, false, cond, not, ◌&&◌, ◌||◌, ◌==◌, inl, inr, List, [], ◌∷◌, ◌++◌, length, refl, sym, ap, ◌∙◌, arith, true≢false}
+use Rattle.std.proofs.lemmas.Bool.{eq-eqb, ne_eqb, eqb-true}
 use Rattle.fx_base.specs.declared.names.Ident.{Ident}
 use Rattle.fx_base.specs.Sets.{those_below}
-use Rattle.fx_comm.specs.Seats.{Seat, seat, has_place, spares_of, filled, refilled, spares_left, repaired, RiseAbove, IdentsRise, NoTwoPlaces, AllBelow32, AllPresent, IsSeated, IsComm}
+use Rattle.fx_comm.specs.Seats.{Seat, has_place, spares_of, filled, refilled, spares_left, repaired, RiseAbove, IdentsRise, NoTwoPlaces, AllBelow32, AllPresent, IsSeated, IsComm}
 use Rattle.fx_comm.proofs.Lists.{tells, is_in, IsApart, first_false, second_false, not_true, fails_those, those_apart, those_same, those_none, count_parts, count_one, AllUnder, those_under}
 
 module _ (present : ℕ → Bool) where
@@ -84,7 +84,7 @@ module _ (present : ℕ → Bool) where
     | inl e ↦ rw (e, stays_apart s seats proc e lost) (new_to seats (spare ∷ spares) proc (λ placed. lost (later_too s seats proc placed)) fresh)
     | inr e ↦
         rw (e, first_false (spare == proc) (is_in proc spares) fresh)
-          (new_to seats spares proc (λ placed. lost (later_too s seats proc placed)) (second_false (spare == proc) (is_in proc spares) fresh))
+        (new_to seats spares proc (λ placed. lost (later_too s seats proc placed)) (second_false (spare == proc) (is_in proc spares) fresh))
   ]
 
   -- no spare has a place
@@ -97,26 +97,29 @@ module _ (present : ℕ → Bool) where
   not_placed : (s : Seat) (seats : List Seat) (spare : ℕ) (spares : List ℕ) → AreOutside (s ∷ seats) (spare ∷ spares) → has_place seats spare ≡ false
   not_placed s seats spare spares outside =
       not_true _ (λ placed.
-        let itself : (spare == spare) ≡ true = eq-eqb spare spare refl in
-        true≢false (sym itself ∙ first_false (spare == spare) (is_in spare spares) (outside spare (later_too s seats spare placed))))
+      let itself : (spare == spare) ≡ true = eq-eqb spare spare refl in
+      true≢false (sym itself ∙ first_false (spare == spare) (is_in spare spares) (outside spare (later_too s seats spare placed))))
 
   pub filled_apart : (seats : List Seat) (spares : List ℕ) → NoTwoPlaces seats → IsApart spares → AreOutside seats spares → NoTwoPlaces (filled present seats spares)
   filled_apart [] spares apart fresh outside = tt
   filled_apart (s ∷ seats) [] apart fresh outside = elim (tells (present s.1.0)) [
     | inl e ↦ rw e (
-        new_to seats [] s.1.0 (λ placed. absurd (true≢false (sym placed ∙ apart.0))) refl,
-        filled_apart seats [] apart.1 tt (λ proc placed. refl))
+      new_to seats [] s.1.0 (λ placed. absurd (true≢false (sym placed ∙ apart.0))) refl,
+      filled_apart seats [] apart.1 tt (λ proc placed. refl),
+    )
     | inr e ↦ rw e (filled_apart seats [] apart.1 tt (λ proc placed. refl))
   ]
   filled_apart (s ∷ seats) (spare ∷ spares) apart fresh outside =
       let fewer : AreOutside seats (spare ∷ spares) = fewer_outside s seats (spare ∷ spares) outside in
       elim (tells (present s.1.0)) [
         | inl e ↦ rw e (
-            new_to seats (spare ∷ spares) s.1.0 (λ placed. absurd (true≢false (sym placed ∙ apart.0))) (outside s.1.0 (here_too s seats s.1.0 refl)),
-            filled_apart seats (spare ∷ spares) apart.1 fresh fewer)
+          new_to seats (spare ∷ spares) s.1.0 (λ placed. absurd (true≢false (sym placed ∙ apart.0))) (outside s.1.0 (here_too s seats s.1.0 refl)),
+          filled_apart seats (spare ∷ spares) apart.1 fresh fewer,
+        )
         | inr e ↦ rw e (
-            new_to seats spares spare (λ placed. absurd (true≢false (sym placed ∙ not_placed s seats spare spares outside))) fresh.0,
-            filled_apart seats spares apart.1 fresh.1 (λ proc placed. second_false (spare == proc) (is_in proc spares) (fewer proc placed)))
+          new_to seats spares spare (λ placed. absurd (true≢false (sym placed ∙ not_placed s seats spare spares outside))) fresh.0,
+          filled_apart seats spares apart.1 fresh.1 (λ proc placed. second_false (spare == proc) (is_in proc spares) (fewer proc placed)),
+        )
       ]
 
   -- the spares of a communicator
@@ -226,17 +229,18 @@ module _ (present : ℕ → Bool) where
 
   passing : (spares : List ℕ) → ((m : ℕ) → is_in m spares ≡ true → present m ≡ true) → ArePresent spares
   passing [] each = tt
-  passing (n ∷ ns) each =
-      (each n (rw (eq-eqb n n refl) refl),
-       passing ns (λ m later. each m (elim (tells (n == m)) [ inl e ↦ rw e refl | inr e ↦ rw e later ])))
+  passing (n ∷ ns) each = (
+    each n (rw (eq-eqb n n refl) refl),
+    passing ns (λ m later. each m (elim (tells (n == m)) [ inl e ↦ rw e refl | inr e ↦ rw e later ])),
+  )
 
   spares_present : (old : List Seat) → ArePresent (spares_of old present)
   spares_present old =
       passing (spares_of old present) (λ m is_spare.
-        elim (tells (present m)) [
-          | inl e ↦ e
-          | inr e ↦ absurd (true≢false (sym is_spare ∙ fails_those (λ p. present p && not (has_place old p)) 32 m (rw e refl)))
-        ])
+      elim (tells (present m)) [
+        | inl e ↦ e
+        | inr e ↦ absurd (true≢false (sym is_spare ∙ fails_those (λ p. present p && not (has_place old p)) 32 m (rw e refl)))
+      ])
 
   filled_present : (seats : List Seat) (spares : List ℕ) → ArePresent spares → AllPresent present (filled present seats spares)
   filled_present [] spares are = tt

@@ -1,12 +1,12 @@
 -- One seat of a loop over the seats.
-use Rattle.std.proofs.Common.{◌≡◌, ℕ, ◌+◌, ◌-◌, ◌<◌, ◌≤◌, zero, suc, Bool, true, false, cond, not, ◌&&◌, ◌||◌, ◌==◌, inl, inr, List, [], ◌∷◌, ◌++◌, length, drop, slice_index_or, refl, sym, ap, ◌∙◌, arith, append_assoc, add-one, drop-cons, true≢false}
+use Rattle.std.proofs.Common.{◌≡◌, ℕ, ◌+◌, ◌-◌, ◌<◌, ◌≤◌, zero, suc, Bool, true, false, not, ◌&&◌, ◌||◌, ◌==◌, inl, inr, List, [], ◌∷◌, ◌++◌, length, drop, slice_index_or, refl, sym, ap, ◌∙◌, arith, append_assoc, add-one, drop-cons}
 use Rattle.std.proofs.lemmas.List.{append-nil}
 use Rattle.std.proofs.lemmas.Bool.{eq-eqb, ne_eqb, cases_eq}
-use Rattle.std.specs.Ordering.{nat_cmp, eq_by_cmp}
+use Rattle.std.specs.Ordering.{nat_cmp}
 use Rattle.std.specs.Cmp.{nat_cmp_total, unsigned_tied}
 use Rattle.std.specs.FinSet as set
-use Rattle.fx_base.specs.Sets.{those_below, members_of, IsLeastOf}
-use Rattle.fx_comm.specs.Seats.{Seat, seat, seats_from, first_seats, has_place, filled, refilled, spares_left, AllBelow32}
+use Rattle.fx_base.specs.Sets.{members_of, IsLeastOf}
+use Rattle.fx_comm.specs.Seats.{Seat, seat, seats_from, has_place, filled, AllBelow32}
 use Rattle.fx_comm.proofs.Lists.{those_first, those_none, those_same, without, not_true}
 use Rattle.fx_comm.proofs.Firsts.{next_seat, no_seat}
 
@@ -51,14 +51,14 @@ pub spare_step : (spares : set.FinSet nat_cmp) (seats : List Seat) (k : ℕ) (d 
 spare_step spares seats k d proc within =
     let s : Seat = slice_index_or seats k d in
     rw (seats_at seats k d within, set.contains-remove nat_cmp_total spares s.1.0 proc, unsigned_tied proc s.1.0, turned proc s.1.0)
-      (put_in (s.1.0 == proc) (set.contains spares proc) (has_place (drop (k + 1) seats) proc))
+    (put_in (s.1.0 == proc) (set.contains spares proc) (has_place (drop (k + 1) seats) proc))
 
 -- the least of a set is the first of its members
 pub members_first : (s : set.FinSet nat_cmp) (n : ℕ) → n < 32 → IsLeastOf s n → members_of s ≡ n ∷ members_of (set.remove s n)
 members_first s n within least =
     those_first (set.contains s) n 32 within least.0 (λ m below. not_true (set.contains s m) (λ is_in. let at_least : n ≤ m = least.1 m is_in in omega arith))
     ∙ ap (λ rest. n ∷ rest) (those_same (without (set.contains s) n) (set.contains (set.remove s n)) 32 (λ m below.
-        sym (rw (set.contains-remove nat_cmp_total s n m, unsigned_tied m n) (swapped (not (m == n)) (set.contains s m)))))
+    sym (rw (set.contains-remove nat_cmp_total s n m, unsigned_tied m n) (swapped (not (m == n)) (set.contains s m)))))
   where
     swapped : (a b : Bool) → (a && b) ≡ (b && a)
     swapped true true = refl

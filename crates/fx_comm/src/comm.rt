@@ -45,6 +45,7 @@ pub fn repair(alloc: Global, old: &Comm, present: ProcSet) -> Result<Comm, NoMem
     requires { 0 < set.len present }
     ensures { IfOk result (λ comm. comm ≡ repaired old.now (set.contains present)) }
 {
+    // The count says that each of them is below 32.
     let _ = present.count();
     let mut spares = spares_of(&old.seats, present);
     let mut seats = Seats::new(alloc);

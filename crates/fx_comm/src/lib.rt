@@ -4,7 +4,7 @@
 mod comm;
 pub mod laws;
 
-pub use comm::{first, repair, Comm};
+pub use comm::{Comm, first, repair};
 
 #[cfg(test)]
 mod tests;

@@ -40,23 +40,59 @@ impl Copied for Known {
 #[derive(Debug, Drop)]
 pub enum Message {
     /// A vote in the ballot of the epoch.
-    Join { e: Epoch, kind: Slot },
+    Join {
+        e: Epoch,
+        kind: Slot,
+    },
     /// The estimate of round `r` in that ballot.
-    Jest { e: Epoch, r: u8, slots: Slots },
+    Jest {
+        e: Epoch,
+        r: u8,
+        slots: Slots,
+    },
     /// What a member brings to a collective call: nothing, a number or elements.
-    Part { e: Epoch, k: CallNo, elems: Elems },
+    Part {
+        e: Epoch,
+        k: CallNo,
+        elems: Elems,
+    },
     /// A vote in a call's ballot.
-    Vote { e: Epoch, k: CallNo, slot: Slot },
+    Vote {
+        e: Epoch,
+        k: CallNo,
+        slot: Slot,
+    },
     /// The estimate of round `r` in a call's ballot.
-    Est { e: Epoch, k: CallNo, r: u8, slots: Slots },
+    Est {
+        e: Epoch,
+        k: CallNo,
+        r: u8,
+        slots: Slots,
+    },
     /// Packed snapshots by stamp.
-    Share { e: Epoch, k: CallNo, shares: StampShares },
+    Share {
+        e: Epoch,
+        k: CallNo,
+        shares: StampShares,
+    },
     /// What the sender holds under a group, if it holds anything.
-    Tell { e: Epoch, k: CallNo, known: Option<Known> },
+    Tell {
+        e: Epoch,
+        k: CallNo,
+        known: Option<Known>,
+    },
     /// What the sender can add to a snapshot that is to be made again, by stamp.
-    Help { e: Epoch, k: CallNo, shares: StampShares },
+    Help {
+        e: Epoch,
+        k: CallNo,
+        shares: StampShares,
+    },
     /// Snapshots that were made again, by stamp.
-    Give { e: Epoch, k: CallNo, shares: StampShares },
+    Give {
+        e: Epoch,
+        k: CallNo,
+        shares: StampShares,
+    },
 }
 
 impl Message {
@@ -66,14 +102,47 @@ impl Message {
     {
         Ok(match self {
             Message::Join { e, kind } => Message::Join { e: *e, kind: *kind },
-            Message::Jest { e, r, slots } => Message::Jest { e: *e, r: *r, slots: slots.copy()? },
-            Message::Part { e, k, elems } => Message::Part { e: *e, k: *k, elems: elems.copy()? },
-            Message::Vote { e, k, slot } => Message::Vote { e: *e, k: *k, slot: *slot },
-            Message::Est { e, k, r, slots } => Message::Est { e: *e, k: *k, r: *r, slots: slots.copy()? },
-            Message::Share { e, k, shares } => Message::Share { e: *e, k: *k, shares: shares.copy()? },
-            Message::Tell { e, k, known } => Message::Tell { e: *e, k: *k, known: known.copied()? },
-            Message::Help { e, k, shares } => Message::Help { e: *e, k: *k, shares: shares.copy()? },
-            Message::Give { e, k, shares } => Message::Give { e: *e, k: *k, shares: shares.copy()? },
+            Message::Jest { e, r, slots } => Message::Jest {
+                e: *e,
+                r: *r,
+                slots: slots.copy()?,
+            },
+            Message::Part { e, k, elems } => Message::Part {
+                e: *e,
+                k: *k,
+                elems: elems.copy()?,
+            },
+            Message::Vote { e, k, slot } => Message::Vote {
+                e: *e,
+                k: *k,
+                slot: *slot,
+            },
+            Message::Est { e, k, r, slots } => Message::Est {
+                e: *e,
+                k: *k,
+                r: *r,
+                slots: slots.copy()?,
+            },
+            Message::Share { e, k, shares } => Message::Share {
+                e: *e,
+                k: *k,
+                shares: shares.copy()?,
+            },
+            Message::Tell { e, k, known } => Message::Tell {
+                e: *e,
+                k: *k,
+                known: known.copied()?,
+            },
+            Message::Help { e, k, shares } => Message::Help {
+                e: *e,
+                k: *k,
+                shares: shares.copy()?,
+            },
+            Message::Give { e, k, shares } => Message::Give {
+                e: *e,
+                k: *k,
+                shares: shares.copy()?,
+            },
         })
     }
 }

@@ -17,7 +17,6 @@ pub(crate) struct Queue {
 impl Model for Queue {
     ghost use Rattle.std.specs.Prelude.{List};
     ghost use Rattle.fx_link.specs.declared.message.Message.{Message};
-
     ghost use Rattle.fx_link.specs.contracts.message.Message as message;
     ghost use Rattle.std.specs.Coded.{coded_list};
 

@@ -23,8 +23,14 @@ fn a_link_keeps_the_order(rt: HostRuntime) -> Result<(), Fail> {
     links.send(zero, one, join(2, Slot::Final))?;
     assert_eq!(rt; vote_of(links.front(zero, one)), Some((1, Slot::Start)));
     assert!(rt; links.front(one, zero).is_none());
-    assert_eq!(rt; vote_of(links.take(zero, one).as_ref()), Some((1, Slot::Start)));
-    assert_eq!(rt; vote_of(links.take(zero, one).as_ref()), Some((2, Slot::Final)));
+    assert_eq!(rt;
+        vote_of(links.take(zero, one).as_ref()),
+        Some((1, Slot::Start))
+    );
+    assert_eq!(rt;
+        vote_of(links.take(zero, one).as_ref()),
+        Some((2, Slot::Final))
+    );
     assert!(rt; links.take(zero, one).is_none());
     links.send(zero, one, join(1, Slot::Start))?;
     links.close_to(one);
@@ -52,7 +58,8 @@ fn closing_one_link_leaves_the_others(rt: HostRuntime) -> Result<(), Fail> {
 fn told(message: &Message) -> Option<(Stamp, Option<Stamp>)> {
     match message {
         Message::Tell {
-            known: Some(known), ..
+            known: Some(known),
+            ..
         } => Some((known.next, known.stamps.nth(0).copied())),
         _ => None,
     }

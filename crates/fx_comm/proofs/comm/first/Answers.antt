@@ -1,5 +1,4 @@
 use Rattle.std.proofs.Common.{sym, ◌∙◌}
-use Rattle.fx_comm.specs.Seats.{IsComm}
 use Rattle.fx_comm.proofs.Firsts.{first_comm}
 use Rattle.fx_comm.proofs.Steps.{first_step, first_end}
 use Rattle.fx_comm.proofs.comm.first.Goals as goal

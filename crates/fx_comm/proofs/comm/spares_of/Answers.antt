@@ -1,5 +1,5 @@
 use Rattle.std.proofs.Common.{◌∙◌}
-use Rattle.fx_comm.specs.Seats.{seat, AllBelow32}
+use Rattle.fx_comm.specs.Seats.{seat}
 use Rattle.fx_comm.proofs.Steps.{below_at, spare_step}
 use Rattle.fx_comm.proofs.comm.spares_of.Goals as goal
 

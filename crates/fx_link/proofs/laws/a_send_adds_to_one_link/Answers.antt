@@ -1,5 +1,5 @@
-use Rattle.std.proofs.Common.{Bool, true, false, cond, ◌≡◌, ◌++◌, ◌∷◌, [], refl}
-use Rattle.fx_link.specs.LinkTable.{LinkTable, link_of, with_link, is_closed}
+use Rattle.std.proofs.Common.{true, false, cond, ◌≡◌, ◌++◌, ◌∷◌, [], refl}
+use Rattle.fx_link.specs.LinkTable.{link_of, with_link, is_closed}
 use Rattle.fx_link.proofs.LinkFacts.{link_here, link_elsewhere}
 use Rattle.fx_link.proofs.laws.a_send_adds_to_one_link.Goals as goal
 

@@ -1,5 +1,4 @@
-use Rattle.std.proofs.Common.{◌≡◌, ◌<◌, length, refl}
-use Rattle.fx_link.specs.LinkTable.{LinkTable, procs_of, closed_to}
+use Rattle.std.proofs.Common.{◌<◌, length, refl}
 use Rattle.fx_link.proofs.Tables.{reaches, still_table}
 use Rattle.fx_link.proofs.links.Links.close_to.Goals as goal
 
