@@ -16,7 +16,6 @@ pub struct Comm {
 
 impl Model for Comm {
     ghost use Rattle.std.specs.Prelude.{List};
-    ghost use Rattle.std.specs.Coded.{coded_list};
     ghost use Rattle.fx_comm.specs.Seats.{Seat, IsComm};
 
     ghost Value = { List Seat };
