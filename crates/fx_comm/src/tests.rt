@@ -10,6 +10,7 @@ fn a_spare_takes_the_least_lost_identity(rt: HostRuntime) -> Result<(), Fail> {
     for proc in [0, 3, 4] {
         present.insert(proc);
     }
+    assert!(rt; present.count() == 3);
     let comm = repair(rt.alloc(), &old, present)?.copy()?;
     assert_eq!(rt; (comm.size(), comm.depleted(4)), (3, true));
     for (place, ident, proc) in [(0, 0, 0), (1, 1, 4), (2, 3, 3)] {
