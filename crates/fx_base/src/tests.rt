@@ -15,3 +15,79 @@ fn bytes_grow_at_their_end(rt: HostRuntime) -> Result<(), Fail> {
     assert!(rt; copy == bytes);
     Ok(())
 }
+
+#[test]
+fn sets_hold_numbers_below_32(rt: HostRuntime) -> Result<(), Fail> {
+    let mut lost = ProcSet::new();
+    assert_eq!(rt; lost.least(), None);
+    for n in [31, 4, 9] {
+        lost.insert(n);
+    }
+    let mut more = lost;
+    more.remove(4);
+    more.insert(0);
+    assert_eq!(rt; (lost.count(), lost.least()), (3, Some(4)));
+    assert_eq!(rt; (more.count(), more.least()), (3, Some(0)));
+    assert!(rt; lost.has(31) && lost.has(4) && !lost.has(0) && !more.has(4));
+    assert_eq!(rt; lost.union(more).count(), 4);
+    Ok(())
+}
+
+#[test]
+fn maps_are_in_rising_key(rt: HostRuntime) -> Result<(), Fail> {
+    let mut map = Sparse::new(rt.alloc());
+    for (key, value) in [(7, 70), (2, -20), (9, 90), (7, 71)] {
+        map.put(key, value)?;
+    }
+    let copy = map.copy()?;
+    assert_eq!(rt; copy.len(), 3);
+    for (k, pair) in [(0, (2, -20)), (1, (7, 71)), (2, (9, 90))] {
+        assert_eq!(rt; copy.nth(k).map(|(key, value)| (key, *value)), Some(pair));
+    }
+    assert!(rt; copy.nth(3).is_none());
+    assert_eq!(rt; copy.get(9).copied(), Some(90));
+    assert_eq!(rt; copy.get(8).copied(), None);
+    Ok(())
+}
+
+#[test]
+fn snapshots_hold_members(rt: HostRuntime) -> Result<(), Fail> {
+    let mut elements = Sparse::new(rt.alloc());
+    elements.put(3, 5)?;
+    let mut snapshot = Snapshot::new(rt.alloc());
+    snapshot.put(MemberId(6), elements)?;
+    snapshot.put(MemberId(1), Sparse::new(rt.alloc()))?;
+    let copy = snapshot.copy()?;
+    assert_eq!(rt; copy.len(), 2);
+    assert_eq!(rt;
+        copy.nth(0).map(|(member, held)| (member, held.len())),
+        Some((MemberId(1), 0))
+    );
+    assert_eq!(rt;
+        copy.nth(1).map(|(member, held)| (member, held.len())),
+        Some((MemberId(6), 1))
+    );
+    assert!(rt; copy.nth(2).is_none() && copy.get(MemberId(0)).is_none());
+    Ok(())
+}
+
+#[test]
+fn shares_lose_a_stamp(rt: HostRuntime) -> Result<(), Fail> {
+    let mut shares = StampShares::new(rt.alloc());
+    for stamp in [5, -1, 3] {
+        let mut bytes = Bytes::new(rt.alloc());
+        bytes.append(b"FX")?;
+        shares.put(Stamp(stamp), bytes)?;
+    }
+    shares.remove(Stamp(3));
+    shares.remove(Stamp(4));
+    let copy = shares.copy()?;
+    assert_eq!(rt; copy.len(), 2);
+    assert_eq!(rt; copy.nth(0).map(|(stamp, _)| stamp), Some(Stamp(-1)));
+    assert_eq!(rt;
+        copy.nth(1).map(|(stamp, bytes)| (stamp, bytes.len())),
+        Some((Stamp(5), 2))
+    );
+    assert!(rt; copy.get(Stamp(3)).is_none());
+    Ok(())
+}

@@ -1,6 +1,16 @@
 //! What the processes send to one another, and the links that carry it.
 #![tactic(auto)]
 
+pub mod laws;
+mod links;
+mod message;
+mod queue;
+mod row;
 mod slot;
 
+pub use links::Links;
+pub use message::{Known, Message};
 pub use slot::{Slot, Slots};
+
+#[cfg(test)]
+mod tests;
