@@ -38,12 +38,12 @@ pub record Adds (d next : Draft) (e : Entry) : Type 0 where
 
 -- ---- lists
 
-pub chained-append : {X : Type 0} (as bs : List (List X)) → chained (as ++ bs) ≡ chained as ++ chained bs
-chained-append [] bs = refl
-chained-append (a ∷ as) bs = ap (λ l. a ++ l) (chained-append as bs) ∙ sym (append_assoc a (chained as) (chained bs))
+pub chained-append : {X : Type 0} (ls ms : List (List X)) → chained (ls ++ ms) ≡ chained ls ++ chained ms
+chained-append [] ms = refl
+chained-append {X} (l ∷ ls) ms = ap (λ (r : List X). l ++ r) (chained-append ls ms) ∙ sym (append_assoc l (chained ls) (chained ms))
 
-pub stmts_entries-append : (as bs : List Stmt) → stmts_entries (as ++ bs) ≡ stmts_entries as ++ stmts_entries bs
-stmts_entries-append as bs = ap chained (map-append stmt_entries as bs) ∙ chained-append (map stmt_entries as) (map stmt_entries bs)
+pub stmts_entries-append : (ss ts : List Stmt) → stmts_entries (ss ++ ts) ≡ stmts_entries ss ++ stmts_entries ts
+stmts_entries-append ss ts = ap chained (map-append stmt_entries ss ts) ∙ chained-append (map stmt_entries ss) (map stmt_entries ts)
 
 pub stmts_entries_push : (ss : List Stmt) (s : Stmt) → stmts_entries (ss ++ s ∷ []) ≡ stmts_entries ss ++ stmt_entries s
 stmts_entries_push ss s = stmts_entries-append ss (s ∷ []) ∙ ap (λ (l : List Entry). stmts_entries ss ++ l) (append-nil (stmt_entries s))
@@ -58,10 +58,10 @@ none_is bs none = nil_from_length bs (eqb-true (length bs) 0 none)
 room_64 : (bs : List Block) (now : List Stmt) → bs ≡ [] → OpenFits bs now → stmts_fit now 64 ≡ true
 room_64 bs now none fits =
     let all : fits.room ≡ 64 = omega (arith, fits.count, ap length none) in
-    subst (λ (n : ℕ). stmts_fit now n ≡ true) all fits.now
+    subst (λ (n : ℕ). stmts_fit now n ≡ true) all fits.statements
 
 nothing_open : OpenFits [] []
-nothing_open = record { room = 64; count = refl; blocks = tt; now = refl }
+nothing_open = record { room = 64; count = refl; blocks = tt; statements = refl }
 
 -- ---- lines between the parts
 

@@ -139,7 +139,7 @@ pub record OpenFits (bs : List Block) (now : List Stmt) : Type 0 where
   pub room : ℕ
   pub count : room + length bs ≡ 64
   pub blocks : BlocksFit bs room
-  pub now : stmts_fit now room ≡ true
+  pub statements : stmts_fit now room ≡ true
 
 pub record IsFine (d : Draft) : Type 0 where
   pub tidy : IsTidy d.stage d
