@@ -1,0 +1,4 @@
+pub mod Lists
+pub mod Grows
+pub mod Messages
+pub mod Rounds

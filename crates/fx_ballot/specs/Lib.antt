@@ -1,0 +1,4 @@
+pub mod Turn
+pub mod World
+pub mod Rows
+pub mod Laws
