@@ -144,7 +144,7 @@ knows_hear link n name a b (Vote s) w said h = knows_hear_vote link a b s w said
 knows_hear link n name a b (Estimate r s) w said h = knows_hear_estimate link a b r s w said.0 h
 knows_hear link n name a b Leaving w said h = knows_hear_leaving link a b w said h
 
-said_vote : (n : ℕ) (name : ℕ → ℕ) (w : World) (a : ℕ) (x : Message) → Said n name w a x → (s : Slot) → x ≡ Vote s → vote_of w a ≡ Some s
+pub said_vote : (n : ℕ) (name : ℕ → ℕ) (w : World) (a : ℕ) (x : Message) → Said n name w a x → (s : Slot) → x ≡ Vote s → vote_of w a ≡ Some s
 said_vote n name w a (Vote t) said s e = let same : t ≡ s = cc in said ∙ ap (λ (z : Slot). Some z) same
 said_vote n name w a (Estimate r t) said s e = absurd (cc)
 said_vote n name w a Leaving said s e = absurd (cc)

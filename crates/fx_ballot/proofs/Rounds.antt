@@ -16,7 +16,7 @@ pub record Rounds (n : ℕ) (name : ℕ → ℕ) (w : World) : Type 0 where
   pub one : (p q : ℕ) (f g : List Slot) → (w.member p).phase ≡ Decided f → (w.member q).phase ≡ Decided g → f ≡ g
 
 -- no phase changed, nobody came back, and nobody said an estimate
-record Still (w v : World) : Type 0 where
+pub record Still (w v : World) : Type 0 where
   pub phase : (p : ℕ) → (v.member p).phase ≡ (w.member p).phase
   pub stays : (p : ℕ) → stays (v.member p) ≡ true → stays (w.member p) ≡ true
   pub said : (c : ℕ) (s : List Slot) → estimate_of v c ≡ Some s → estimate_of w c ≡ Some s
@@ -28,22 +28,31 @@ rounds_still n name w v t h = record {
   one = λ p q f g a b. h.one p q f g (sym (t.phase p) ∙ a) (sym (t.phase q) ∙ b);
 }
 
+pub still_kill : (p : ℕ) (w : World) → Still w (kills p w)
+still_kill p w = record { phase = λ q. grind (arith, nat_tests); stays = λ q e. grind (arith, nat_tests); said = λ c s e. grind (arith, nat_tests) }
+
 pub rounds_kill : (n : ℕ) (name : ℕ → ℕ) (p : ℕ) (w : World) → Rounds n name w → Rounds n name (kills p w)
 rounds_kill n name p w h =
     rounds_still n name w (kills p w)
-    (record { phase = λ q. grind (arith, nat_tests); stays = λ q e. grind (arith, nat_tests); said = λ c s e. grind (arith, nat_tests) }) h
+    (still_kill p w) h
+
+pub still_tell : (p q : ℕ) (w : World) → Still w (tells p q w)
+still_tell p q w = record { phase = λ o. grind (arith, nat_tests); stays = λ o e. grind (arith, nat_tests); said = λ c s e. grind (arith, nat_tests) }
 
 pub rounds_tell : (n : ℕ) (name : ℕ → ℕ) (p q : ℕ) (w : World) → Rounds n name w → Rounds n name (tells p q w)
 rounds_tell n name p q w h =
     rounds_still n name w (tells p q w)
-    (record { phase = λ o. grind (arith, nat_tests); stays = λ o e. grind (arith, nat_tests); said = λ c s e. grind (arith, nat_tests) }) h
+    (still_tell p q w) h
+
+pub still_leave : (to : ℕ → Bool) (p : ℕ) (w : World) → Still w (leaves to p w)
+still_leave to p w = record { phase = λ q. grind (arith, nat_tests); stays = λ q e. grind (arith, nat_tests); said = λ c s e. grind (arith, nat_tests) }
 
 pub rounds_leave : (n : ℕ) (name : ℕ → ℕ) (to : ℕ → Bool) (p : ℕ) (w : World) → Rounds n name w → Rounds n name (leaves to p w)
 rounds_leave n name to p w h =
     rounds_still n name w (leaves to p w)
-    (record { phase = λ q. grind (arith, nat_tests); stays = λ q e. grind (arith, nat_tests); said = λ c s e. grind (arith, nat_tests) }) h
+    (still_leave to p w) h
 
-still_hear : (link : ℕ → ℕ → List Message) (n : ℕ) (name : ℕ → ℕ) (a b : ℕ) (x : Message) (w : World) → Said n name w a x → Still w (heard_by link a b x w)
+pub still_hear : (link : ℕ → ℕ → List Message) (n : ℕ) (name : ℕ → ℕ) (a b : ℕ) (x : Message) (w : World) → Said n name w a x → Still w (heard_by link a b x w)
 still_hear link n name a b (Vote s) w said =
     record { phase = λ q. grind (arith, nat_tests); stays = λ q e. grind (arith, nat_tests); said = λ c t e. grind (arith, nat_tests) }
 still_hear link n name a b (Estimate r s) w said = record {

@@ -41,11 +41,12 @@ is_outside Voting = false
 is_outside (Round r held) = false
 is_outside (Decided held) = false
 
-abbrev pub is_decided : Phase → Bool
-is_decided Outside = false
-is_decided Voting = false
-is_decided (Round r held) = false
-is_decided (Decided held) = true
+-- it hasn't entered, or has decided
+abbrev pub may_leave : Phase → Bool
+may_leave Outside = true
+may_leave Voting = false
+may_leave (Round r held) = false
+may_leave (Decided held) = true
 
 -- the member once it heard a message of process p
 abbrev pub after : ℕ → Message → Member → Member
@@ -140,7 +141,7 @@ happens n name w (Act i) = if nat_lt i n && stays (w.member (name i)) then acts 
 happens n name w (Hear i j) =
     if nat_lt i n && (nat_lt j n && (w.member (name j)).living) then hears (name i) (name j) (w.link (name i) (name j)) w else w
 happens n name w (Leave i) =
-    if nat_lt i n && (stays (w.member (name i)) && (if is_outside (w.member (name i)).phase then true else is_decided (w.member (name i)).phase))
+    if nat_lt i n && (stays (w.member (name i)) && may_leave (w.member (name i)).phase)
         then leaves (among n name) (name i) w else w
 happens n name w (Kill i) = if nat_lt i n then kills (name i) w else w
 happens n name w (Tell i j) =
