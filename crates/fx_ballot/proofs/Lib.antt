@@ -4,4 +4,5 @@ pub mod Messages
 pub mod Rounds
 pub mod Origins
 pub mod Turns
+pub mod Trails
 pub mod Face
