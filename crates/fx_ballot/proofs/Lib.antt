@@ -3,6 +3,7 @@ pub mod Grows
 pub mod Messages
 pub mod Rounds
 pub mod Origins
-pub mod Turns
 pub mod Trails
+pub mod Turns
 pub mod Face
+pub mod Runs

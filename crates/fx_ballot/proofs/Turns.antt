@@ -11,6 +11,7 @@ use Rattle.fx_ballot.specs.Laws.{vote_of, estimate_of, held, past, TrueSlots}
 use Rattle.fx_ballot.proofs.Grows.{Grows, goes, says, grows_go, grows_say}
 use Rattle.fx_ballot.proofs.Messages.{Messages, messages_go, messages_say}
 use Rattle.fx_ballot.proofs.Rounds.{Rounds, rounds_wait, rounds_form, rounds_speak, rounds_pass, rounds_adopt, rounds_decide}
+use Rattle.fx_ballot.proofs.Trails.{Caught, caught_go, caught_say}
 use Rattle.fx_ballot.proofs.Origins.{Genuine, genuine_turn, turned_go, turned_say, slots_true, slot_true}
 
 -- what every state that a list of moves leads to meets
@@ -75,6 +76,11 @@ sound_form n name i w low here at h (Some slots) e =
       subst (TrueSlots n name w) equal known)
     (rounds_form (quiet n name i w) n name i slots w low here at h.rounds) h
 
+-- before its own round a member has said no estimate
+unsaid : (n : ℕ) (name : ℕ → ℕ) (i : ℕ) (s slots : List Slot) (w : World) → i < n → (w.member (name i)).phase ≡ Round i slots
+    → Rounds n name w → estimate_of w (name i) ≡ Some s → ⊥
+unsaid n name i s slots w low at h e = grind (arith, nat_tests, at, h.spoke i s low e)
+
 sound_speak : (n : ℕ) (name : ℕ → ℕ) (i r : ℕ) (slots : List Slot) (w : World) → Apart n name → i < n → stays (w.member (name i)) ≡ true
     → (w.member (name i)).phase ≡ Round r slots → r ≡ i → Sound n name w → Sound n name (stepped n name i w (speak r slots))
 sound_speak n name i r slots w apart low here at own h =
@@ -91,10 +97,6 @@ sound_speak n name i r slots w apart low here at own h =
         (turned_say link (name i) (Round (suc i) slots) slots w) (not_gone (w.member (name i)) here)
         (λ s e. h.genuine.lists (name i) s (ap held now ∙ e)) h.genuine;
     })
-  where
-    unsaid : (n : ℕ) (name : ℕ → ℕ) (i : ℕ) (s slots : List Slot) (w : World) → i < n → (w.member (name i)).phase ≡ Round i slots
-        → Rounds n name w → estimate_of w (name i) ≡ Some s → ⊥
-    unsaid n name i s slots w low at h e = grind (arith, nat_tests, at, h.spoke i s low e)
 
 away : (n : ℕ) (name : ℕ → ℕ) (i r : ℕ) (w : World) (lost left : Bool) → Messages n name w
     → (seen_by name i w r).lost ≡ lost → (seen_by name i w r).left ≡ left → (lost || left) ≡ true → stays (w.member (name r)) ≡ false
@@ -158,3 +160,52 @@ turned n name i w apart low here h (Decided slots) at = sound_wait n name i (Dec
 pub sound_act : (n : ℕ) (name : ℕ → ℕ) (i : ℕ) (w : World) → Apart n name → i < n → stays (w.member (name i)) ≡ true
     → Sound n name w → Sound n name (acts n name i w)
 sound_act n name i w apart low here h = turned n name i w apart low here h (w.member (name i)).phase refl
+
+-- the same for what is under way
+caught_quiet : (n : ℕ) (name : ℕ → ℕ) (i : ℕ) (phase : Phase) (w : World) → Caught (among n name) w
+    → Caught (among n name) (goes (quiet n name i w) (name i) phase w)
+caught_quiet n name i phase w c = caught_go (among n name) (among n name) (name i) phase w c
+
+caught_form : (n : ℕ) (name : ℕ → ℕ) (i : ℕ) (w : World) → Caught (among n name) w → (slots : Option (List Slot))
+    → Caught (among n name) (stepped n name i w (form slots))
+caught_form n name i w c None = caught_quiet n name i Voting w c
+caught_form n name i w c (Some slots) = caught_quiet n name i (Round 0 slots) w c
+
+caught_follow : (n : ℕ) (name : ℕ → ℕ) (i r : ℕ) (slots : List Slot) (w : World) → Caught (among n name) w → (estimate : Option (List Slot)) (absent : Bool)
+    → Caught (among n name) (stepped n name i w (follow r slots estimate absent))
+caught_follow n name i r slots w c (Some new) absent = caught_quiet n name i (Round (suc r) new) w c
+caught_follow n name i r slots w c None true = caught_quiet n name i (Round (suc r) slots) w c
+caught_follow n name i r slots w c None false = caught_quiet n name i (Round r slots) w c
+
+none_from : (o : Option (List Slot)) → ((s : List Slot) → o ≡ Some s → ⊥) → o ≡ None
+none_from None no_value = refl
+none_from (Some s) no_value = absurd (no_value s refl)
+
+caught_speak : (n : ℕ) (name : ℕ → ℕ) (i r : ℕ) (slots : List Slot) (w : World) → i < n → stays (w.member (name i)) ≡ true
+    → (w.member (name i)).phase ≡ Round r slots → r ≡ i → Sound n name w → Caught (among n name) w
+    → Caught (among n name) (stepped n name i w (speak r slots))
+caught_speak n name i r slots w low here at own h c =
+    let now : (w.member (name i)).phase ≡ Round i slots = at ∙ ap (λ (k : ℕ). Round k slots) own in
+    let none : estimate_of w (name i) ≡ None = none_from (estimate_of w (name i)) (λ s e. unsaid n name i s slots w low now h.rounds e) in
+    caught_say (among n name) n name (among n name) (name i) i (Round (suc r) slots) slots w (λ p e. e) none (not_gone (w.member (name i)) here) h.messages c
+
+caught_turned : (n : ℕ) (name : ℕ → ℕ) (i : ℕ) (w : World) → i < n → stays (w.member (name i)) ≡ true → Sound n name w → Caught (among n name) w
+    → (phase : Phase) → (w.member (name i)).phase ≡ phase → Caught (among n name) (stepped n name i w (turn n i (seen_by name i w) phase))
+caught_turned n name i w low here h c Outside at = caught_quiet n name i Outside w c
+caught_turned n name i w low here h c Voting at = caught_form n name i w c (slots_of (seen_by name i w) n)
+caught_turned n name i w low here h c (Round r slots) at =
+    cond_both {A = Turn} (nat_lt r n)
+    (cond (r == i) (speak r slots) (follow r slots (seen_by name i w r).estimate ((seen_by name i w r).lost || (seen_by name i w r).left)))
+    (decide slots) (λ (t : Turn). Caught (among n name) (stepped n name i w t))
+    (λ below.
+      cond_both {A = Turn} (r == i) (speak r slots)
+      (follow r slots (seen_by name i w r).estimate ((seen_by name i w r).lost || (seen_by name i w r).left))
+      (λ (t : Turn). Caught (among n name) (stepped n name i w t))
+      (λ own. caught_speak n name i r slots w low here at (is_same r i own) h c)
+      (λ other. caught_follow n name i r slots w c (seen_by name i w r).estimate ((seen_by name i w r).lost || (seen_by name i w r).left)))
+    (λ beyond. caught_quiet n name i (Decided slots) w c)
+caught_turned n name i w low here h c (Decided slots) at = caught_quiet n name i (Decided slots) w c
+
+pub caught_act : (n : ℕ) (name : ℕ → ℕ) (i : ℕ) (w : World) → i < n → stays (w.member (name i)) ≡ true
+    → Sound n name w → Caught (among n name) w → Caught (among n name) (acts n name i w)
+caught_act n name i w low here h c = caught_turned n name i w low here h c (w.member (name i)).phase refl
