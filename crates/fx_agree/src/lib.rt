@@ -1,13 +1,11 @@
-// A library with one function.
+//! Ballots: votes and rounds by which members come to one list of slots.
 #![tactic(auto)]
 
-ghost use Rattle.std.specs.Prelude.{◌≡◌};
-ghost use Rattle.fx_agree.specs.Echo.{echo_of};
+mod ballot;
+mod stage;
 
-// The `ensures` clause is the contract: what `echo` returns is `echo_of` of its argument, a definition
-// in `specs/Echo.antt`, which a caller's clause can cite too.
-pub fn echo(x: usize) -> usize
-    ensures { result ≡ echo_of x }
-{
-    x
-}
+pub use ballot::Ballot;
+pub use fx_ballot::Poll;
+
+#[cfg(test)]
+mod tests;

@@ -1,0 +1,246 @@
+ghost use Rattle.std.specs.Prelude.{◌≡◌, ◌≢◌, ◌<◌, ◌≤◌, true, length, IfOk, OnOk, OnErr, IsErr};
+ghost use Rattle.fx_ballot.specs.Turn.{Vote, Estimate, Leaving, Voting, Round, Decided, slot_of, slots_of};
+ghost use Rattle.fx_agree.specs.Stages.{IsRound};
+ghost use Rattle.fx_ballot.specs.Seats.{at_seat, seated, hears_seat, told_seat, seat_turn, polled, spent};
+
+use crate::stage::Stage;
+use fx_ballot::{Heard, Poll};
+use fx_base::NoMemory;
+use fx_link::{Slot, Slots};
+use std::alloc::Global;
+use std::marker::Model;
+
+/// One member's part in a ballot: its vote, what it heard, and how far it has come.
+#[derive(Debug, Drop)]
+pub struct Ballot {
+    members: u8,
+    me: u8,
+    stage: Stage,
+    heard: Vec<Heard>,
+    failed: bool,
+}
+
+impl Model for Ballot {
+    ghost use Rattle.std.specs.Prelude.{◌≡◌, ◌<◌, ◌≤◌, length};
+    ghost use Rattle.fx_ballot.specs.Seats.{Seated};
+    ghost use Rattle.fx_agree.specs.Stages.{phase_of};
+
+    ghost Value = { Seated };
+
+    ghost view = { λ b. record { members = b.members; me = b.me; phase = phase_of b.stage; heard = b.heard.items; failed = b.failed } };
+
+    ghost invariant = { λ b. (length b.heard.items ≡ b.members) × (b.me < b.members) × (b.members ≤ 32) };
+}
+
+impl Ballot {
+    /// The ballot of the member at seat `me`, of 1 to 32 members, that votes so.
+    pub fn new(alloc: Global, members: u8, me: u8, vote: Slot) -> Result<Ballot, NoMemory>
+        requires few { members ≤ 32 }
+        requires member { me < members }
+        ensures { IfOk result (λ ballot. ballot ≡ seated members me vote) }
+    {
+        let mut heard = Vec::new(alloc);
+        for _seat in 0..members {
+            heard.push(Heard {
+                vote: None,
+                estimate: None,
+                lost: false,
+                left: false,
+            })?;
+        }
+        heard[usize::from(me)].vote = Some(vote);
+        Ok(Ballot {
+            members,
+            me,
+            stage: Stage::Voting,
+            heard,
+            failed: false,
+        })
+    }
+
+    /// The vote of the member at seat `from` came. A second one changes nothing.
+    pub fn on_vote(&mut self, from: u8, slot: Slot)
+        requires { from < self.old.members }
+        ensures { self.new ≡ hears_seat from (Vote slot) self.old }
+    {
+        let heard = &mut self.heard[usize::from(from)];
+        if heard.vote.is_none() {
+            heard.vote = Some(slot);
+        }
+    }
+
+    /// The estimate of round `round` came, with one slot for each member. A second one of this round changes nothing.
+    pub fn on_estimate(&mut self, round: u8, slots: &Slots) -> Result<(), NoMemory>
+        requires below { round < self.old.members }
+        requires whole { length slots.now ≡ self.old.members }
+        ensures heard { OnOk result (self.new ≡ hears_seat round (Estimate round slots.now) self.old) }
+        ensures no_memory { OnErr result (self.new ≡ spent self.old) }
+        ensures stays_failed { self.old.failed ≡ true → IsErr result }
+    {
+        if self.failed {
+            return Err(NoMemory);
+        }
+        let heard = &mut self.heard[usize::from(round)];
+        if heard.estimate.is_some() {
+            return Ok(());
+        }
+        match slots.copy() {
+            Ok(copy) => {
+                heard.estimate = Some(copy);
+                Ok(())
+            }
+            Err(NoMemory) => {
+                self.failed = true;
+                Err(NoMemory)
+            }
+        }
+    }
+
+    /// The member at seat `who` is lost.
+    pub fn on_lost(&mut self, who: u8)
+        requires { who < self.old.members }
+        ensures { self.new ≡ told_seat who self.old }
+    {
+        self.heard[usize::from(who)].lost = true;
+    }
+
+    /// The member at seat `who` left.
+    pub fn on_left(&mut self, who: u8)
+        requires { who < self.old.members }
+        ensures { self.new ≡ hears_seat who Leaving self.old }
+    {
+        self.heard[usize::from(who)].left = true;
+    }
+
+    /// Takes the one turn that is enabled, and says what it did. After `Decided` each poll answers `Decided` with the same
+    /// slots. After `NoMemory` every later call that can answer it does.
+    pub fn poll(&mut self) -> Result<Poll, NoMemory>
+        ensures takes_its_turn { OnOk result (self.new ≡ polled self.old) }
+        ensures says_its_turn { IfOk result (λ answer. answer ≡ (seat_turn self.old).poll) }
+        ensures no_memory { OnErr result (self.new ≡ spent self.old) }
+        ensures stays_failed { self.old.failed ≡ true → IsErr result }
+    {
+        if self.failed {
+            return Err(NoMemory);
+        }
+        match self.turn() {
+            Ok(answer) => Ok(answer),
+            Err(NoMemory) => {
+                self.failed = true;
+                Err(NoMemory)
+            }
+        }
+    }
+
+    fn turn(&mut self) -> Result<Poll, NoMemory>
+        ensures takes { OnOk result (self.new ≡ polled self.old) }
+        ensures says { IfOk result (λ answer. answer ≡ (seat_turn self.old).poll) }
+        ensures no_memory { OnErr result (self.new ≡ self.old) }
+    {
+        match &self.stage {
+            Stage::Voting => self.form(),
+            Stage::Round(number, held) => {
+                let number = *number;
+                if number >= self.members {
+                    let held = held.copy()?;
+                    self.decide(number, held)
+                } else if number == self.me {
+                    let held = held.copy()?;
+                    self.speak(number, held)
+                } else {
+                    self.follow(number)
+                }
+            }
+            Stage::Decided(slots) => Ok(Poll::Decided(slots.copy()?)),
+        }
+    }
+
+    fn form(&mut self) -> Result<Poll, NoMemory>
+        requires { self.old.phase ≡ Voting }
+        ensures takes { OnOk result (self.new ≡ polled self.old) }
+        ensures says { IfOk result (λ answer. answer ≡ (seat_turn self.old).poll) }
+        ensures no_memory { OnErr result (self.new ≡ self.old) }
+    {
+        match gathered(*self.heard.allocator(), &self.heard)? {
+            None => Ok(Poll::NotYet),
+            Some(slots) => {
+                self.stage = Stage::Round(0, slots);
+                Ok(Poll::Moved)
+            }
+        }
+    }
+
+    fn speak(&mut self, number: u8, held: Slots) -> Result<Poll, NoMemory>
+        requires here { self.old.phase ≡ Round number held }
+        requires own { number ≡ self.old.me }
+        ensures takes { OnOk result (self.new ≡ polled self.old) }
+        ensures says { IfOk result (λ answer. answer ≡ (seat_turn self.old).poll) }
+        ensures no_memory { OnErr result (self.new ≡ self.old) }
+    {
+        let own = held.copy()?;
+        let said = held.copy()?;
+        self.heard[usize::from(self.me)].estimate = Some(own);
+        self.stage = Stage::Round(number + 1, held);
+        Ok(Poll::SendEstimate(said))
+    }
+
+    fn decide(&mut self, number: u8, held: Slots) -> Result<Poll, NoMemory>
+        requires here { self.old.phase ≡ Round number held }
+        requires all_passed { self.old.members ≤ number }
+        ensures takes { OnOk result (self.new ≡ polled self.old) }
+        ensures says { IfOk result (λ answer. answer ≡ (seat_turn self.old).poll) }
+        ensures no_memory { OnErr result (self.new ≡ self.old) }
+    {
+        let answer = held.copy()?;
+        self.stage = Stage::Decided(held);
+        Ok(Poll::Decided(answer))
+    }
+
+    fn follow(&mut self, number: u8) -> Result<Poll, NoMemory>
+        requires here { IsRound number self.old.phase }
+        requires below { number < self.old.members }
+        requires other { number ≢ self.old.me }
+        ensures takes { OnOk result (self.new ≡ polled self.old) }
+        ensures says { IfOk result (λ answer. answer ≡ (seat_turn self.old).poll) }
+        ensures no_memory { OnErr result (self.new ≡ self.old) }
+    {
+        let heard = &self.heard[usize::from(number)];
+        match &heard.estimate {
+            Some(slots) => {
+                self.stage = Stage::Round(number + 1, slots.copy()?);
+                Ok(Poll::Moved)
+            }
+            None if heard.lost || heard.left => {
+                self.stage.pass();
+                Ok(Poll::Moved)
+            }
+            None => Ok(Poll::NotYet),
+        }
+    }
+}
+
+/// The slot of a member: its vote, else `Lost`, else `Left`; `None` while it is not known.
+fn slot_known(heard: &Heard) -> Option<Slot>
+    ensures { result ≡ slot_of heard.now.vote heard.now.lost heard.now.left }
+{
+    match heard.vote {
+        Some(slot) => Some(slot),
+        None if heard.lost => Some(Slot::Lost),
+        None if heard.left => Some(Slot::Left),
+        None => None,
+    }
+}
+
+/// The slots of all members, where each is known.
+fn gathered(alloc: Global, heard: &[Heard]) -> Result<Option<Slots>, NoMemory>
+    ensures { IfOk result (λ slots. slots ≡ slots_of (at_seat heard.now) (length heard.now)) }
+{
+    let mut slots = Slots::new(alloc);
+    for known in heard {
+        match slot_known(known) {
+            Some(slot) => slots.push(slot)?,
+            None => return Ok(None),
+        }
+    }
+    Ok(Some(slots))
+}
