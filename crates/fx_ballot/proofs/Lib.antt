@@ -7,3 +7,4 @@ pub mod Trails
 pub mod Turns
 pub mod Face
 pub mod Runs
+pub mod Readings
