@@ -1,7 +1,9 @@
-ghost use Rattle.std.specs.Prelude.{◌≡◌, ◌≢◌, ◌<◌, ◌≤◌, true, length, IfOk, OnOk, OnErr, IsErr};
-ghost use Rattle.fx_ballot.specs.Turn.{Vote, Estimate, Leaving, Voting, Round, Decided, slot_of, slots_of};
+ghost use Rattle.std.specs.Prelude.{◌≡◌, ◌≢◌, ◌<◌, ◌≤◌, ◌↔◌, ℕ, List, replicate, true, length, IfOk, OnOk, OnErr, IsErr};
+ghost use Rattle.fx_ballot.specs.Turn.{Vote, Estimate, Leaving, Voting, Round, Decided, slot_of, slots_of, unheard};
+ghost use Rattle.fx_ballot.specs.World.{Apart, entered, fresh, after, told, acted, turn_of};
+ghost use Rattle.fx_link.specs.declared.slot.Slot.{Slot as ForSlot};
 ghost use Rattle.fx_agree.specs.Stages.{IsRound};
-ghost use Rattle.fx_ballot.specs.Seats.{at_seat, seated, hears_seat, told_seat, seat_turn, polled, spent};
+ghost use Rattle.fx_ballot.specs.Seats.{at_seat, seated, hears_seat, told_seat, seat_turn, polled, spent, as_member, InWorld, Awaits};
 
 use crate::stage::Stage;
 use fx_ballot::{Heard, Poll};
@@ -37,17 +39,12 @@ impl Ballot {
     pub fn new(alloc: Global, members: u8, me: u8, vote: Slot) -> Result<Ballot, NoMemory>
         requires few { members ≤ 32 }
         requires member { me < members }
-        ensures { IfOk result (λ ballot. ballot ≡ seated members me vote) }
-    {
-        let mut heard = Vec::new(alloc);
-        for _seat in 0..members {
-            heard.push(Heard {
-                vote: None,
-                estimate: None,
-                lost: false,
-                left: false,
-            })?;
+        ensures gathers_votes { IfOk result (λ ballot. ballot ≡ seated members me vote) }
+        ensures has_entered {
+            IfOk result (λ ballot. (name : ℕ → ℕ) → Apart members name → as_member name ballot ≡ entered (name me) vote fresh)
         }
+    {
+        let mut heard = nobody_heard(alloc, members)?;
         heard[usize::from(me)].vote = Some(vote);
         Ok(Ballot {
             members,
@@ -61,7 +58,8 @@ impl Ballot {
     /// The vote of the member at seat `from` came. A second one changes nothing.
     pub fn on_vote(&mut self, from: u8, slot: Slot)
         requires { from < self.old.members }
-        ensures { self.new ≡ hears_seat from (Vote slot) self.old }
+        ensures has_heard { self.new ≡ hears_seat from (Vote slot) self.old }
+        ensures has_heard_in_the_world { InWorld self.old self.new (λ name. after (name from) (Vote slot)) }
     {
         let heard = &mut self.heard[usize::from(from)];
         if heard.vote.is_none() {
@@ -73,7 +71,10 @@ impl Ballot {
     pub fn on_estimate(&mut self, round: u8, slots: &Slots) -> Result<(), NoMemory>
         requires below { round < self.old.members }
         requires whole { length slots.now ≡ self.old.members }
-        ensures heard { OnOk result (self.new ≡ hears_seat round (Estimate round slots.now) self.old) }
+        ensures has_heard { OnOk result (self.new ≡ hears_seat round (Estimate round slots.now) self.old) }
+        ensures has_heard_in_the_world {
+            OnOk result (InWorld self.old self.new (λ name. after (name round) (Estimate round slots.now)))
+        }
         ensures no_memory { OnErr result (self.new ≡ spent self.old) }
         ensures stays_failed { self.old.failed ≡ true → IsErr result }
     {
@@ -99,7 +100,8 @@ impl Ballot {
     /// The member at seat `who` is lost.
     pub fn on_lost(&mut self, who: u8)
         requires { who < self.old.members }
-        ensures { self.new ≡ told_seat who self.old }
+        ensures was_told { self.new ≡ told_seat who self.old }
+        ensures was_told_in_the_world { InWorld self.old self.new (λ name. told (name who)) }
     {
         self.heard[usize::from(who)].lost = true;
     }
@@ -107,7 +109,8 @@ impl Ballot {
     /// The member at seat `who` left.
     pub fn on_left(&mut self, who: u8)
         requires { who < self.old.members }
-        ensures { self.new ≡ hears_seat who Leaving self.old }
+        ensures has_heard { self.new ≡ hears_seat who Leaving self.old }
+        ensures has_heard_in_the_world { InWorld self.old self.new (λ name. after (name who) Leaving) }
     {
         self.heard[usize::from(who)].left = true;
     }
@@ -117,6 +120,19 @@ impl Ballot {
     pub fn poll(&mut self) -> Result<Poll, NoMemory>
         ensures takes_its_turn { OnOk result (self.new ≡ polled self.old) }
         ensures says_its_turn { IfOk result (λ answer. answer ≡ (seat_turn self.old).poll) }
+        ensures takes_its_turn_in_the_world { OnOk result (InWorld self.old self.new (λ name. acted self.old.members name self.old.me)) }
+        ensures says_its_turn_in_the_world {
+            IfOk result (λ answer.
+              (name : ℕ → ℕ) → Apart self.old.members name
+              → answer ≡ (turn_of self.old.members name self.old.me (as_member name self.old)).poll)
+        }
+        ensures waits_for_a_message {
+            IfOk result (λ answer. (answer ≡ Poll.NotYet) ↔ Awaits self.old.members self.old.me (at_seat self.old.heard) self.old.phase)
+        }
+        ensures stays_decided {
+            (slots : List ForSlot) → self.old.phase ≡ Decided slots
+            → OnOk result (self.new ≡ self.old) × IfOk result (λ answer. answer ≡ Poll.Decided slots)
+        }
         ensures no_memory { OnErr result (self.new ≡ spent self.old) }
         ensures stays_failed { self.old.failed ≡ true → IsErr result }
     {
@@ -217,6 +233,22 @@ impl Ballot {
             None => Ok(Poll::NotYet),
         }
     }
+}
+
+/// That nothing was heard of any of the members.
+fn nobody_heard(alloc: Global, members: u8) -> Result<Vec<Heard>, NoMemory>
+    ensures { IfOk result (λ heard. heard.items ≡ replicate members unheard) }
+{
+    let mut heard = Vec::new(alloc);
+    for _seat in 0..members {
+        heard.push(Heard {
+            vote: None,
+            estimate: None,
+            lost: false,
+            left: false,
+        })?;
+    }
+    Ok(heard)
 }
 
 /// The slot of a member: its vote, else `Lost`, else `Left`; `None` while it is not known.

@@ -11,7 +11,7 @@ use Rattle.fx_ballot.specs.declared.poll.Poll.{Poll}
 use Rattle.fx_ballot.specs.declared.poll.Poll.TheVariants as poll
 use Rattle.fx_ballot.specs.Turn.{Phase, Outside, Voting, Round, Decided, Message, Vote, Estimate, Leaving, hear, learn_loss, unheard, slot_of, slots_of, with_slot, missing_slot, Turn, turn, form, speak, follow, decide}
 use Rattle.fx_ballot.specs.World.{Member, put, after, told, entered, fresh, own_after, turn_of, acted, Apart}
-use Rattle.fx_ballot.specs.Seats.{Seated, at_seat, with_seat, seated, hears_seat, told_seat, seat_turn, noting, polled, known_of, as_member, NoVote, NoEstimate, Awaits}
+use Rattle.fx_ballot.specs.Seats.{Seated, at_seat, with_seat, seated, hears_seat, told_seat, seat_turn, noting, polled, known_of, as_member, NoVote, NoEstimate, Awaits, InWorld}
 
 -- a list written at k, read at m
 at_set : (heard : List Heard) (k m : ℕ) (h : Heard) → k < length heard → at_seat (set heard k h) m ≡ cond (m == k) h (at_seat heard m)
@@ -248,3 +248,25 @@ turn_waits n i seen (Round r held) = at_round (nat_lt r n) (r == i) refl refl
     at_round true true e f = (λ q. absurd (cc), λ m. absurd (m.1 (is_same r i f)))
     at_round true false e f = followed r n i held (seen r) (seen r).estimate (seen r).lost (seen r).left refl refl refl (is_below r n e) (is_other r i f)
 turn_waits n i seen (Decided held) = (λ q. absurd (cc), λ m. absurd m)
+
+pub in_world_hears : (old new : Seated) (k : ℕ) (x : Message) → new ≡ hears_seat k x old → k < old.members → length old.heard ≡ old.members
+    → InWorld old new (λ name. after (name k) x)
+in_world_hears old new k x e low whole name apart = ap (as_member name) e ∙ hears_as_member name old k x apart low whole
+
+pub in_world_told : (old new : Seated) (k : ℕ) → new ≡ told_seat k old → k < old.members → length old.heard ≡ old.members
+    → InWorld old new (λ name. told (name k))
+in_world_told old new k e low whole name apart = ap (as_member name) e ∙ told_as_member name old k apart low whole
+
+pub in_world_polled : (old new : Seated) → new ≡ polled old → old.me < old.members → length old.heard ≡ old.members
+    → InWorld old new (λ name. acted old.members name old.me)
+in_world_polled old new e low whole name apart = ap (as_member name) e ∙ polled_as_member name old apart low whole
+
+pub in_world_seated : (new : Seated) (members me : ℕ) (vote : Slot) → new ≡ seated members me vote → me < members
+    → (name : ℕ → ℕ) → Apart members name → as_member name new ≡ entered (name me) vote fresh
+in_world_seated new members me vote e low name apart = ap (as_member name) e ∙ seated_as_member name members me vote apart low
+
+pub turn_waits_as : (b : Seated) (answer : Poll) → answer ≡ (seat_turn b).poll
+    → (answer ≡ poll.NotYet) ↔ Awaits b.members b.me (at_seat b.heard) b.phase
+turn_waits_as b answer e =
+    let P : Poll → Type 0 = λ a. (a ≡ poll.NotYet) ↔ Awaits b.members b.me (at_seat b.heard) b.phase in
+    subst P (sym e) (turn_waits b.members b.me (at_seat b.heard) b.phase)

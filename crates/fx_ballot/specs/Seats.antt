@@ -5,7 +5,7 @@ use Rattle.fx_ballot.specs.declared.heard.Heard.{Heard}
 use Rattle.fx_ballot.specs.declared.poll.Poll.{Poll}
 use Rattle.fx_ballot.specs.declared.poll.Poll.TheVariants as poll
 use Rattle.fx_ballot.specs.Turn.{Phase, Outside, Voting, Round, Decided, Message, Vote, Estimate, Leaving, hear, learn_loss, unheard, Turn, turn}
-use Rattle.fx_ballot.specs.World.{Member}
+use Rattle.fx_ballot.specs.World.{Member, Apart}
 
 -- the number of members, its own seat, its phase, what it knows of each seat, and whether memory ran out
 pub record Seated : Type 0 where
@@ -79,3 +79,7 @@ Awaits n i seen Outside = Unit {0}
 Awaits n i seen Voting = (k : ℕ) × (k < n) × NoVote (seen k)
 Awaits n i seen (Round r held) = (r < n) × (r ≢ i) × NoEstimate (seen r)
 Awaits n i seen (Decided held) = ⊥
+
+-- under any names of the seats that are apart, the first becomes the second as the member that it is becomes by the change
+abbrev pub InWorld : Seated → Seated → ((ℕ → ℕ) → Member → Member) → Type 0
+InWorld old new change = (name : ℕ → ℕ) → Apart old.members name → as_member name new ≡ change name (as_member name old)
