@@ -40,9 +40,7 @@ impl Ballot {
         requires few { members ≤ 32 }
         requires member { me < members }
         ensures gathers_votes { IfOk result (λ ballot. ballot ≡ seated members me vote) }
-        ensures has_entered {
-            IfOk result (λ ballot. (name : ℕ → ℕ) → Apart members name → as_member name ballot ≡ entered (name me) vote fresh)
-        }
+        ensures has_entered { IfOk result (λ ballot. (name : ℕ → ℕ) → Apart members name → as_member name ballot ≡ entered (name me) vote fresh) }
     {
         let mut heard = nobody_heard(alloc, members)?;
         heard[usize::from(me)].vote = Some(vote);
@@ -72,9 +70,7 @@ impl Ballot {
         requires below { round < self.old.members }
         requires whole { length slots.now ≡ self.old.members }
         ensures has_heard { OnOk result (self.new ≡ hears_seat round (Estimate round slots.now) self.old) }
-        ensures has_heard_in_the_world {
-            OnOk result (InWorld self.old self.new (λ name. after (name round) (Estimate round slots.now)))
-        }
+        ensures has_heard_in_the_world { OnOk result (InWorld self.old self.new (λ name. after (name round) (Estimate round slots.now))) }
         ensures no_memory { OnErr result (self.new ≡ spent self.old) }
         ensures stays_failed { self.old.failed ≡ true → IsErr result }
     {
@@ -121,18 +117,12 @@ impl Ballot {
         ensures takes_its_turn { OnOk result (self.new ≡ polled self.old) }
         ensures says_its_turn { IfOk result (λ answer. answer ≡ (seat_turn self.old).poll) }
         ensures takes_its_turn_in_the_world { OnOk result (InWorld self.old self.new (λ name. acted self.old.members name self.old.me)) }
-        ensures says_its_turn_in_the_world {
-            IfOk result (λ answer.
-              (name : ℕ → ℕ) → Apart self.old.members name
-              → answer ≡ (turn_of self.old.members name self.old.me (as_member name self.old)).poll)
-        }
-        ensures waits_for_a_message {
-            IfOk result (λ answer. (answer ≡ Poll.NotYet) ↔ Awaits self.old.members self.old.me (at_seat self.old.heard) self.old.phase)
-        }
-        ensures stays_decided {
-            (slots : List ForSlot) → self.old.phase ≡ Decided slots
-            → OnOk result (self.new ≡ self.old) × IfOk result (λ answer. answer ≡ Poll.Decided slots)
-        }
+        ensures says_its_turn_in_the_world { IfOk result (λ answer.
+            (name : ℕ → ℕ) → Apart self.old.members name
+            → answer ≡ (turn_of self.old.members name self.old.me (as_member name self.old)).poll) }
+        ensures waits_for_a_message { IfOk result (λ answer. (answer ≡ Poll.NotYet) ↔ Awaits self.old.members self.old.me (at_seat self.old.heard) self.old.phase) }
+        ensures stays_decided { (slots : List ForSlot) → self.old.phase ≡ Decided slots
+            → OnOk result (self.new ≡ self.old) × IfOk result (λ answer. answer ≡ Poll.Decided slots) }
         ensures no_memory { OnErr result (self.new ≡ spent self.old) }
         ensures stays_failed { self.old.failed ≡ true → IsErr result }
     {

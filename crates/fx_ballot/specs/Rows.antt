@@ -5,11 +5,7 @@ use Rattle.fx_link.specs.declared.slot.Slot.TheVariants.{Yes, Lost, Left, Final,
 use Rattle.fx_ballot.specs.declared.poll.Poll.{Poll}
 use Rattle.fx_ballot.specs.declared.poll.Poll.TheVariants as poll
 use Rattle.fx_ballot.specs.Turn.{Phase, Outside, Voting, Round, Decided, Message, Vote, Estimate, Leaving}
-use Rattle.fx_ballot.specs.World.{Member, World, Move, Enter, Act, Hear, Leave, Kill, Tell, fresh, start, after, told, entered, acted, turn_of, run}
-
--- the plain names: the member at a seat is the process of that number
-abbrev pub plain : ℕ → ℕ
-plain k = k
+use Rattle.fx_ballot.specs.World.{Member, World, Move, Enter, Act, Hear, Leave, Kill, Tell, fresh, start, after, told, entered, acted, turn_of, run, plain}
 
 -- what so many turns of one member of three answer
 abbrev pub polls : ℕ → Member → List Poll

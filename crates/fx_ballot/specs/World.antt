@@ -155,3 +155,7 @@ run n name (move ∷ moves) w = run n name moves (happens n name w move)
 -- no two seats have one process
 abbrev pub Apart : ℕ → (ℕ → ℕ) → Type 0
 Apart n name = (i j : ℕ) → i < n → j < n → name i ≡ name j → i ≡ j
+
+-- the plain names: the member at a seat is the process of that number
+abbrev pub plain : ℕ → ℕ
+plain k = k

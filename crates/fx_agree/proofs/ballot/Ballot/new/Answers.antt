@@ -14,13 +14,13 @@ returns-clause-has_entered c =
       me = c.args.me;
       stage = stage.Voting;
       heard =
-        with_item c.in_ok-heard.heard c.from.result
-        (record {
-          vote = Some c.args.vote;
-          estimate = c.index_mut.result.now.estimate;
-          lost = c.index_mut.result.now.lost;
-          left = c.index_mut.result.now.left;
-        });
+          with_item c.in_ok-heard.heard c.from.result
+          (record {
+            vote = Some c.args.vote;
+            estimate = c.index_mut.result.now.estimate;
+            lost = c.index_mut.result.now.lost;
+            left = c.index_mut.result.now.left;
+          });
       failed = false;
     }))
     c.args.members c.args.me c.args.vote (grind (arith, elements)) c.requires.member
