@@ -1,7 +1,7 @@
 use fx_link::Slots;
 
 /// What one turn of a member does.
-#[derive(Debug, Drop)]
+#[derive(Debug, PartialEq, Drop)]
 pub enum Poll {
     /// Nothing: a member is awaited that was neither heard nor lost, and hasn't left.
     NotYet,
