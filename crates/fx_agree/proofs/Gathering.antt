@@ -1,12 +1,10 @@
 -- One unknown slot makes the whole unknown.
 use Rattle.std.proofs.lemmas.List.{get_or_read}
 use Rattle.fx_ballot.specs.Seats.{at_seat}
-use Rattle.std.proofs.Common.{◌≡◌, sym, length, get_or, ℕ, ◌<◌, zero, suc, List, Option, Some, None, ◌⊎◌, inl, inr, arith, ap, ◌∙◌, refl}
-use Rattle.std.proofs.lemmas.Bool.{cases_eq}
+use Rattle.std.proofs.Common.{◌≡◌, sym, length, get_or, ℕ, ◌<◌, List, None, ap, ◌∙◌}
 use Rattle.fx_ballot.proofs.Readings.{slots_none}
-use Rattle.fx_link.specs.declared.slot.Slot.{Slot}
 use Rattle.fx_ballot.specs.declared.heard.Heard.{Heard}
-use Rattle.fx_ballot.specs.Turn.{unheard, slot_of, slots_of, with_slot}
+use Rattle.fx_ballot.specs.Turn.{unheard, slot_of, slots_of}
 
 pub none_at : (heard : List Heard) (k : ℕ) (h : Heard) → k < length heard → h ≡ get_or heard k h → slot_of h.vote h.lost h.left ≡ None
     → None ≡ slots_of (at_seat heard) (length heard)

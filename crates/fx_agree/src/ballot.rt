@@ -58,6 +58,7 @@ impl Ballot {
         requires { from < self.old.members }
         ensures has_heard { self.new ≡ hears_seat from (Vote slot) self.old }
         ensures has_heard_in_the_world { InWorld self.old self.new (λ name. after (name from) (Vote slot)) }
+        ensures keeps_its_members { self.new.members ≡ self.old.members }
     {
         let heard = &mut self.heard[usize::from(from)];
         if heard.vote.is_none() {
@@ -73,6 +74,7 @@ impl Ballot {
         ensures has_heard_in_the_world { OnOk result (InWorld self.old self.new (λ name. after (name round) (Estimate round slots.now))) }
         ensures no_memory { OnErr result (self.new ≡ spent self.old) }
         ensures stays_failed { self.old.failed ≡ true → IsErr result }
+        ensures keeps_its_members { self.new.members ≡ self.old.members }
     {
         if self.failed {
             return Err(NoMemory);
@@ -98,6 +100,7 @@ impl Ballot {
         requires { who < self.old.members }
         ensures was_told { self.new ≡ told_seat who self.old }
         ensures was_told_in_the_world { InWorld self.old self.new (λ name. told (name who)) }
+        ensures keeps_its_members { self.new.members ≡ self.old.members }
     {
         self.heard[usize::from(who)].lost = true;
     }
@@ -107,6 +110,7 @@ impl Ballot {
         requires { who < self.old.members }
         ensures has_heard { self.new ≡ hears_seat who Leaving self.old }
         ensures has_heard_in_the_world { InWorld self.old self.new (λ name. after (name who) Leaving) }
+        ensures keeps_its_members { self.new.members ≡ self.old.members }
     {
         self.heard[usize::from(who)].left = true;
     }
@@ -125,6 +129,7 @@ impl Ballot {
             → OnOk result (self.new ≡ self.old) × IfOk result (λ answer. answer ≡ Poll.Decided slots) }
         ensures no_memory { OnErr result (self.new ≡ spent self.old) }
         ensures stays_failed { self.old.failed ≡ true → IsErr result }
+        ensures keeps_its_members { self.new.members ≡ self.old.members }
     {
         if self.failed {
             return Err(NoMemory);
@@ -142,6 +147,7 @@ impl Ballot {
         ensures takes { OnOk result (self.new ≡ polled self.old) }
         ensures says { IfOk result (λ answer. answer ≡ (seat_turn self.old).poll) }
         ensures no_memory { OnErr result (self.new ≡ self.old) }
+        ensures keeps_its_members { self.new.members ≡ self.old.members }
     {
         match &self.stage {
             Stage::Voting => self.form(),
@@ -166,6 +172,7 @@ impl Ballot {
         ensures takes { OnOk result (self.new ≡ polled self.old) }
         ensures says { IfOk result (λ answer. answer ≡ (seat_turn self.old).poll) }
         ensures no_memory { OnErr result (self.new ≡ self.old) }
+        ensures keeps_its_members { self.new.members ≡ self.old.members }
     {
         match gathered(*self.heard.allocator(), &self.heard)? {
             None => Ok(Poll::NotYet),
@@ -182,6 +189,7 @@ impl Ballot {
         ensures takes { OnOk result (self.new ≡ polled self.old) }
         ensures says { IfOk result (λ answer. answer ≡ (seat_turn self.old).poll) }
         ensures no_memory { OnErr result (self.new ≡ self.old) }
+        ensures keeps_its_members { self.new.members ≡ self.old.members }
     {
         let own = held.copy()?;
         let said = held.copy()?;
@@ -196,6 +204,7 @@ impl Ballot {
         ensures takes { OnOk result (self.new ≡ polled self.old) }
         ensures says { IfOk result (λ answer. answer ≡ (seat_turn self.old).poll) }
         ensures no_memory { OnErr result (self.new ≡ self.old) }
+        ensures keeps_its_members { self.new.members ≡ self.old.members }
     {
         let answer = held.copy()?;
         self.stage = Stage::Decided(held);
@@ -209,6 +218,7 @@ impl Ballot {
         ensures takes { OnOk result (self.new ≡ polled self.old) }
         ensures says { IfOk result (λ answer. answer ≡ (seat_turn self.old).poll) }
         ensures no_memory { OnErr result (self.new ≡ self.old) }
+        ensures keeps_its_members { self.new.members ≡ self.old.members }
     {
         let heard = &self.heard[usize::from(number)];
         match &heard.estimate {

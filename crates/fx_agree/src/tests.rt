@@ -1,8 +1,12 @@
+ghost use Rattle.std.specs.Prelude.{◌≡◌, length, IfOk};
+
 use super::*;
 use fx_link::{Slot, Slots};
 use std::test::Fail;
 
-fn three(rt: &HostRuntime, first: Slot, second: Slot, third: Slot) -> Result<Slots, Fail> {
+fn three(rt: &HostRuntime, first: Slot, second: Slot, third: Slot) -> Result<Slots, Fail>
+    ensures { IfOk result (λ slots. length slots ≡ 3) }
+{
     let mut slots = Slots::new(rt.alloc());
     slots.push(first)?;
     slots.push(second)?;
@@ -34,7 +38,9 @@ fn the_first_vote_stays_and_one_that_left_has_the_slot_left(rt: HostRuntime) -> 
     ballot.on_vote(1, Slot::Fresh);
     ballot.on_vote(1, Slot::Gone);
     assert!(rt; ballot.poll()? == Poll::Moved);
-    assert!(rt; ballot.poll()? == Poll::SendEstimate(three(&rt, Slot::Kept, Slot::Fresh, Slot::Left)?));
+    assert!(rt;
+        ballot.poll()? == Poll::SendEstimate(three(&rt, Slot::Kept, Slot::Fresh, Slot::Left)?)
+    );
     assert!(rt; ballot.poll()? == Poll::NotYet);
     Ok(())
 }

@@ -1,18 +1,17 @@
 -- What worlds above need of the ballot world: what its states meet, that each move keeps it, and what follows from it.
-use Rattle.std.proofs.Common.{◌≡◌, ℕ, ◌<◌, ◌≤◌, ◌==◌, Bool, true, false, not, ◌&&◌, List, [], ◌∷◌, ◌++◌, length, get_or, Option, Some, None, ◌⊎◌, inl, inr, arith, refl, subst, sym, ◌∙◌, ap}
+use Rattle.std.proofs.Common.{◌≡◌, ℕ, ◌<◌, Bool, true, false, List, [], ◌∷◌, length, get_or, Some, None, inl, inr, arith, refl, subst, sym, ◌∙◌, ap}
 use Rattle.std.specs.Prelude.{slice_get, nat_lt}
 use Rattle.std.proofs.lemmas.Bool.Decides.{nat_tests}
 use Rattle.std.proofs.lemmas.Option.{slice_get-get_or}
 use Rattle.fx_link.specs.declared.slot.Slot.{Slot}
-use Rattle.fx_link.specs.declared.slot.Slot.TheVariants.{Lost, Left}
-use Rattle.fx_ballot.specs.Turn.{Phase, Outside, Voting, Round, Decided, Message, Vote, Estimate, Leaving}
-use Rattle.fx_ballot.specs.World.{Member, World, stays, may_leave, Apart, start, enters, hears, leaves, kills, tells, acts, put_link}
-use Rattle.fx_ballot.specs.Laws.{vote_of, estimate_of, held, past, Reaches, StandsIn, OneDecision, IsTrueSlot, TrueSlots, Settled}
+use Rattle.fx_ballot.specs.Turn.{Phase, Outside, Voting, Round, Decided, Message, Estimate}
+use Rattle.fx_ballot.specs.World.{World, stays, may_leave, start, enters, hears, leaves, kills, tells, put_link}
+use Rattle.fx_ballot.specs.Laws.{vote_of, estimate_of, held, past, Reaches, OneDecision, IsTrueSlot, TrueSlots, Settled}
 use Rattle.fx_ballot.proofs.Lists.{Each, each_in}
-use Rattle.fx_ballot.proofs.Messages.{Said, Messages, Knows, messages_kill, messages_tell, messages_leave, messages_enter, messages_hear}
+use Rattle.fx_ballot.proofs.Messages.{Said, Knows, messages_kill, messages_tell, messages_leave, messages_enter, messages_hear}
 use Rattle.fx_ballot.proofs.Rounds.{Rounds, rounds_kill, rounds_tell, rounds_leave, rounds_enter, rounds_hear}
 use Rattle.fx_ballot.proofs.Origins.{Genuine, genuine_kill, genuine_tell, genuine_leave, genuine_enter, genuine_hear}
-use Rattle.fx_ballot.proofs.Trails.{Caught, Trail, LeavingLast, hear_all}
+use Rattle.fx_ballot.proofs.Trails.{Caught, LeavingLast, hear_all}
 use Rattle.fx_ballot.proofs.Turns.{Sound}
 
 -- nobody has entered and nothing was said; some may be killed, and some told of them
@@ -206,17 +205,17 @@ adopts_now n name w h decided i r slots low lower here own holds ahead said =
     let sent : (past r (w.member (name r)).phase ≡ true) × (held (w.member (name r)).phase ≡ Some slots) = h.spoke r slots lower said in
     let later : i < r = later_round i r (w.member (name i)).phase own ahead in
     let agreed : (past i (w.member (name i)).phase ≡ true) × (held (w.member (name r)).phase ≡ held (w.member (name i)).phase) =
-      h.agree i (name r) low here (past_before i r (w.member (name r)).phase later sent.0) in
+    h.agree i (name r) low here (past_before i r (w.member (name r)).phase later sent.0) in
     let same : Some slots ≡ Some decided = sym sent.1 ∙ agreed.1 ∙ holds in cc
 
 pub sound_settled : (n : ℕ) (name : ℕ → ℕ) (w : World) → Sound n name w → (p : ℕ) (decided : List Slot) → (w.member p).phase ≡ Decided decided
     → (i : ℕ) → i < n → stays (w.member (name i)) ≡ true → Settled n name w decided i
 sound_settled n name w h p decided at i low here =
     let now : (past i (w.member (name i)).phase ≡ true) × (held (w.member (name i)).phase ≡ Some decided) =
-      held_now n name w h.rounds p decided at i low here in
+    held_now n name w h.rounds p decided at i low here in
     record {
       own_round = now.0;
       holds = now.1;
       adopts = λ r slots lower ahead reach.
-        adopts_now n name w h.rounds decided i r slots low lower here now.0 now.1 ahead (sound_sent n name w h (name i) r slots reach);
+          adopts_now n name w h.rounds decided i r slots low lower here now.0 now.1 ahead (sound_sent n name w h (name i) r slots reach);
     }

@@ -1,9 +1,9 @@
 -- What no move takes back: a vote cast, an estimate sent, that one left, that one was killed.
-use Rattle.std.proofs.Common.{◌≡◌, ℕ, ◌<◌, Bool, true, false, not, ◌&&◌, List, [], ◌∷◌, ◌++◌, Option, Some, None, arith, refl}
+use Rattle.std.proofs.Common.{◌≡◌, ℕ, Bool, true, false, List, Option, Some, None, arith, refl}
 use Rattle.std.proofs.lemmas.Bool.Decides.{nat_tests}
 use Rattle.fx_link.specs.declared.slot.Slot.{Slot}
-use Rattle.fx_ballot.specs.Turn.{earliest, Phase, Outside, Voting, Round, Decided, Message, Vote, Estimate, Leaving}
-use Rattle.fx_ballot.specs.World.{Member, World, put, stays, after, told, entered, enters, hears, leaves, kills, tells}
+use Rattle.fx_ballot.specs.Turn.{earliest, Phase, Message, Vote, Estimate, Leaving}
+use Rattle.fx_ballot.specs.World.{World, put, after, enters, leaves, kills, tells}
 use Rattle.fx_ballot.specs.Laws.{vote_of, estimate_of}
 
 pub record Grows (w v : World) : Type 0 where

@@ -1,5 +1,5 @@
 -- What holds of each message of a list.
-use Rattle.std.proofs.Common.{◌≡◌, List, [], ◌∷◌, ◌++◌, Bool, true, false, inl, inr, ◌⊎◌, sym, subst}
+use Rattle.std.proofs.Common.{List, [], ◌∷◌, ◌++◌, inl, inr, sym, subst}
 use Rattle.fx_ballot.specs.Turn.{Message}
 use Rattle.fx_ballot.specs.Laws.{StandsIn}
 

@@ -3,8 +3,8 @@ use Rattle.std.proofs.Common.{◌≡◌, ℕ, ◌<◌, ◌==◌, Bool, true, fal
 use Rattle.std.proofs.lemmas.Bool.Decides.{nat_tests}
 use Rattle.std.proofs.lemmas.Bool.{cond_both}
 use Rattle.fx_link.specs.declared.slot.Slot.{Slot}
-use Rattle.fx_ballot.specs.Turn.{Phase, Outside, Voting, Round, Decided, Message, Vote, Estimate, Leaving, earliest}
-use Rattle.fx_ballot.specs.World.{Member, World, put, put_link, told_all, stays, after, told, entered, enters, hears, leaves, kills, tells}
+use Rattle.fx_ballot.specs.Turn.{Phase, Outside, Message, Vote, Estimate, Leaving, earliest}
+use Rattle.fx_ballot.specs.World.{World, put_link, told_all, enters, hears, leaves, kills, tells}
 use Rattle.fx_ballot.specs.Laws.{vote_of, estimate_of}
 use Rattle.fx_ballot.proofs.Lists.{Each, each_append, each_weaken}
 use Rattle.fx_ballot.proofs.Grows.{Grows, grows_kill, grows_tell, grows_leave, grows_enter, grows_go, grows_say, grows_hear, goes, says, heard_by}
@@ -185,8 +185,8 @@ pub messages_leave : (n : ℕ) (name : ℕ → ℕ) (to : ℕ → Bool) (p : ℕ
 messages_leave n name to p w h = record {
   knows = knows_leave to p w h.knows;
   links =
-    links_told n name (leaves to p w) w.link to p (Leaving ∷ []) (links_grow n name w (leaves to p w) w.link (grows_leave to p w) h.links)
-    (gone_now to p w, tt);
+      links_told n name (leaves to p w) w.link to p (Leaving ∷ []) (links_grow n name w (leaves to p w) w.link (grows_leave to p w) h.links)
+      (gone_now to p w, tt);
 }
 
 voted_now : (to : ℕ → Bool) (p : ℕ) (vote : Slot) (w : World) → vote_of (enters to p vote w) p ≡ Some vote
@@ -197,9 +197,9 @@ pub messages_enter : (n : ℕ) (name : ℕ → ℕ) (to : ℕ → Bool) (p : ℕ
 messages_enter n name to p vote w out here h = record {
   knows = knows_enter to p vote w out h.knows;
   links =
-    links_told n name (enters to p vote w) w.link to p (Vote vote ∷ [])
-    (links_grow n name w (enters to p vote w) w.link (grows_enter to p vote w (h.knows.outside p out) here) h.links)
-    (voted_now to p vote w, tt);
+      links_told n name (enters to p vote w) w.link to p (Vote vote ∷ [])
+      (links_grow n name w (enters to p vote w) w.link (grows_enter to p vote w (h.knows.outside p out) here) h.links)
+      (voted_now to p vote w, tt);
 }
 
 pub messages_hear : (n : ℕ) (name : ℕ → ℕ) (a b : ℕ) (x : Message) (rest : List Message) (w : World)
@@ -211,8 +211,8 @@ messages_hear n name a b x rest w front h =
     record {
       knows = knows_hear (put_link w.link a b rest) n name a b x w both.0 h.knows;
       links =
-        links_put n name v w.link a b rest (links_grow n name w v w.link g h.links)
-        (each_weaken (Said n name w a) (Said n name v a) (said_grows n name w v a g) rest both.1);
+          links_put n name v w.link a b rest (links_grow n name w v w.link g h.links)
+          (each_weaken (Said n name w a) (Said n name v a) (said_grows n name w v a g) rest both.1);
     }
 
 pub messages_go : (n : ℕ) (name : ℕ → ℕ) (to : ℕ → Bool) (p : ℕ) (phase : Phase) (w : World)
@@ -236,7 +236,7 @@ messages_say n name to i phase slots w low out none h =
     record {
       knows = knows_say link (name i) phase slots w out none h.knows;
       links =
-        links_told n name v w.link to (name i) (Estimate i slots ∷ [])
-        (links_grow n name w v w.link (grows_say link (name i) phase slots w none) h.links)
-        ((said_now link (name i) phase slots w, low, refl), tt);
+          links_told n name v w.link to (name i) (Estimate i slots ∷ [])
+          (links_grow n name w v w.link (grows_say link (name i) phase slots w none) h.links)
+          ((said_now link (name i) phase slots w, low, refl), tt);
     }

@@ -1,15 +1,15 @@
 -- Each slot of each list that is held has a true origin.
-use Rattle.std.proofs.Common.{◌≡◌, ℕ, ◌<◌, ◌≤◌, ◌≢◌, ◌==◌, ◌+◌, zero, suc, length, Bool, true, false, not, ◌&&◌, List, [], ◌∷◌, ◌++◌, Option, Some, None, ◌⊎◌, inl, inr, arith, refl, subst, sym, ◌∙◌, ap}
+use Rattle.std.proofs.Common.{◌≡◌, ℕ, ◌<◌, ◌≢◌, ◌+◌, zero, suc, length, Bool, true, false, List, [], ◌∷◌, ◌++◌, Option, Some, None, ◌⊎◌, inl, inr, arith, refl, subst, sym, ◌∙◌, ap}
 use Rattle.std.specs.Prelude.{slice_get}
 use Rattle.std.proofs.lemmas.Bool.Decides.{nat_tests}
 use Rattle.fx_link.specs.declared.slot.Slot.{Slot}
 use Rattle.fx_link.specs.declared.slot.Slot.TheVariants.{Lost, Left}
 use Rattle.fx_ballot.specs.declared.heard.Heard.{Heard}
-use Rattle.fx_ballot.specs.Turn.{Phase, Outside, Voting, Round, Decided, Message, Vote, Estimate, Leaving, slots_of, slot_of, with_slot, missing_slot}
-use Rattle.fx_ballot.specs.World.{Member, World, put, stays, is_outside, may_leave, enters, leaves, kills, tells, Apart}
-use Rattle.fx_ballot.specs.Laws.{vote_of, estimate_of, held, past, IsTrueSlot, TrueSlots}
+use Rattle.fx_ballot.specs.Turn.{Phase, Voting, Message, slots_of, slot_of, with_slot}
+use Rattle.fx_ballot.specs.World.{World, stays, may_leave, enters, leaves, kills, tells}
+use Rattle.fx_ballot.specs.Laws.{vote_of, held, IsTrueSlot, TrueSlots}
 use Rattle.std.proofs.lemmas.Bool.{cases_eq}
-use Rattle.fx_ballot.proofs.Grows.{Grows, goes, says, heard_by, grows_kill, grows_tell, grows_leave, grows_enter, grows_go, grows_say, grows_hear}
+use Rattle.fx_ballot.proofs.Grows.{Grows, goes, says, heard_by, grows_kill, grows_tell, grows_leave, grows_enter, grows_hear}
 use Rattle.fx_ballot.proofs.Messages.{Knows, Said, said_vote}
 use Rattle.fx_ballot.proofs.Rounds.{Rounds, Still, still_hear, still_kill, still_tell, still_leave}
 
@@ -63,20 +63,20 @@ pub slots_true : (name : ℕ → ℕ) (w : World) (seen : ℕ → Heard) (n : �
 slots_true name w seen zero each slots e = let same : [] ≡ slots = cc in subst (TrueSlots 0 name w) same (record { size = refl; each = λ k slot x. absurd (cc) })
 slots_true name w seen (suc n) each slots e =
     let b : (xs : List Slot) × (x : Slot) × (slots_of seen n ≡ Some xs) × (slot_of (seen n).vote (seen n).lost (seen n).left ≡ Some x) × (slots ≡ xs ++ x ∷ []) =
-      with_slot_both (slots_of seen n) (slot_of (seen n).vote (seen n).lost (seen n).left) slots e in
+    with_slot_both (slots_of seen n) (slot_of (seen n).vote (seen n).lost (seen n).left) slots e in
     let front : TrueSlots n name w b.0 = slots_true name w seen n (λ k slot l s. each k slot (omega arith) s) b.0 b.2 in
     let size : length b.0 ≡ n = front.size in
     subst (TrueSlots (suc n) name w) (sym b.4)
     (record {
       size = omega (arith, length_one b.0 b.1, size);
       each = λ k slot x.
-        elim (got_last b.0 b.1 k slot x) [
-          inl h ↦ front.each k slot h
-        | inr h ↦
-          let last : IsTrueSlot w (name n) b.1 = each n b.1 (omega arith) b.3 in
-          let here : IsTrueSlot w (name n) slot = subst (IsTrueSlot w (name n)) (sym h.1) last in
-          subst (λ (m : ℕ). IsTrueSlot w (name m) slot) (sym (h.0 ∙ size)) here
-        ];
+          elim (got_last b.0 b.1 k slot x) [
+            | inl h ↦ front.each k slot h
+            | inr h ↦
+                let last : IsTrueSlot w (name n) b.1 = each n b.1 (omega arith) b.3 in
+                let here : IsTrueSlot w (name n) slot = subst (IsTrueSlot w (name n)) (sym h.1) last in
+                subst (λ (m : ℕ). IsTrueSlot w (name m) slot) (sym (h.0 ∙ size)) here
+          ];
     })
 
 pub genuine_still : (n : ℕ) (name : ℕ → ℕ) (w v : World) → Grows w v → Still w v → ((p : ℕ) → (v.member p).gone ≡ true → may_leave (v.member p).phase ≡ true)
@@ -136,11 +136,11 @@ pub genuine_turn : (n : ℕ) (name : ℕ → ℕ) (p : ℕ) (phase : Phase) (w v
     → ((slots : List Slot) → held phase ≡ Some slots → TrueSlots n name w slots) → Genuine n name w → Genuine n name v
 genuine_turn n name p phase w v g t stay new h = record {
   lists = λ q slots e.
-    slots_grow n name w v slots g
-    (elim (cases_eq q p) [
-      inl same ↦ new slots (subst (λ (x : Phase). held x ≡ Some slots) (ap (λ (o : ℕ). (v.member o).phase) same ∙ t.here) e)
-    | inr ne ↦ h.lists q slots (subst (λ (x : Phase). held x ≡ Some slots) (t.other q ne) e)
-    ]);
+      slots_grow n name w v slots g
+      (elim (cases_eq q p) [
+        | inl same ↦ new slots (subst (λ (x : Phase). held x ≡ Some slots) (ap (λ (o : ℕ). (v.member o).phase) same ∙ t.here) e)
+        | inr ne ↦ h.lists q slots (subst (λ (x : Phase). held x ≡ Some slots) (t.other q ne) e)
+      ]);
   parted = λ q e. grind (arith, nat_tests, stay, t.gone q, t.gone p, t.other q, h.parted q);
 }
 

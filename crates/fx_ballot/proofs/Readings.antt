@@ -1,15 +1,15 @@
 -- What a member keeps by seat, read by process, does what the ballot world says.
-use Rattle.std.proofs.Common.{◌≡◌, ℕ, ◌<◌, ◌≤◌, ◌≢◌, ◌==◌, zero, suc, length, get_or, set, replicate, Bool, true, false, cond, not, ◌&&◌, ◌||◌, List, [], ◌∷◌, ◌++◌, Option, Some, None, ◌⊎◌, inl, inr, arith, refl, subst, sym, ◌∙◌, ap, get_or-set_other}
+use Rattle.std.proofs.Common.{◌≡◌, ℕ, ◌<◌, ◌≤◌, ◌≢◌, ◌==◌, zero, suc, length, set, replicate, Bool, true, false, cond, ◌&&◌, ◌||◌, List, Option, Some, None, inl, inr, arith, refl, subst, sym, ◌∙◌, ap, get_or-set_other}
 use Rattle.std.specs.Prelude.{nat_lt, ◌↔◌}
 use Rattle.std.proofs.lemmas.Bool.Decides.{nat_tests}
 use Rattle.std.proofs.lemmas.List.{length-replicate}
-use Rattle.std.proofs.lemmas.Bool.{cond_both, cases_eq}
+use Rattle.std.proofs.lemmas.Bool.{cases_eq}
 use Rattle.std.proofs.lemmas.Grind.{get_or-set_at}
 use Rattle.fx_link.specs.declared.slot.Slot.{Slot}
 use Rattle.fx_ballot.specs.declared.heard.Heard.{Heard}
 use Rattle.fx_ballot.specs.declared.poll.Poll.{Poll}
 use Rattle.fx_ballot.specs.declared.poll.Poll.TheVariants as poll
-use Rattle.fx_ballot.specs.Turn.{Phase, Outside, Voting, Round, Decided, Message, Vote, Estimate, Leaving, hear, learn_loss, unheard, slot_of, slots_of, with_slot, missing_slot, Turn, turn, form, speak, follow, decide}
+use Rattle.fx_ballot.specs.Turn.{Phase, Outside, Voting, Round, Decided, Message, hear, learn_loss, unheard, slot_of, slots_of, with_slot, Turn, turn, form, speak, follow, decide}
 use Rattle.fx_ballot.specs.World.{Member, put, after, told, entered, fresh, own_after, turn_of, acted, Apart}
 use Rattle.fx_ballot.specs.Seats.{Seated, at_seat, with_seat, seated, hears_seat, told_seat, seat_turn, noting, polled, known_of, as_member, NoVote, NoEstimate, Awaits, InWorld}
 
@@ -45,15 +45,16 @@ known_below : (n m : ℕ) (name : ℕ → ℕ) (heard : List Heard) (k : ℕ) �
 known_below n zero name heard k apart all low = absurd (omega arith)
 known_below n (suc m) name heard k apart all low =
     elim (cases_eq k m) [
-      inl same ↦ this (name k) (name m) (at_seat heard m) (at_seat heard k) (known_of m name heard (name k)) (ap name same) (ap (at_seat heard) same)
-    | inr ne ↦
-      that (name k) (name m) (at_seat heard m) (at_seat heard k) (known_of m name heard (name k))
-      (λ e. ne (apart k m (omega arith) (omega arith) e))
-      (known_below n m name heard k apart (omega arith) (omega (arith, ne)))
+      | inl same ↦ this (name k) (name m) (at_seat heard m) (at_seat heard k) (known_of m name heard (name k)) (ap name same) (ap (at_seat heard) same)
+      | inr ne ↦
+          that (name k) (name m) (at_seat heard m) (at_seat heard k) (known_of m name heard (name k))
+          (λ e. ne (apart k m (omega arith) (omega arith) e))
+          (known_below n m name heard k apart (omega arith) (omega (arith, ne)))
     ]
   where
     this : (p q : ℕ) (a b rest : Heard) → p ≡ q → b ≡ a → cond (p == q) a rest ≡ b
     this p q a b rest e f = grind (arith, nat_tests)
+
     that : (p q : ℕ) (a b rest : Heard) → p ≢ q → rest ≡ b → cond (p == q) a rest ≡ b
     that p q a b rest e f = grind (arith, nat_tests)
 
@@ -79,7 +80,7 @@ with_known : (name : ℕ → ℕ) (b : Seated) (phase : Phase) (k : ℕ) (f : He
 with_known name b phase k f apart low whole =
     changed name b phase k (f (at_seat b.heard k)) apart low whole
     ∙ ap (λ (h : Heard). record (as_member name b) { phase = phase; heard = put (known_of b.members name b.heard) (name k) (f h) })
-      (sym (known_at b.members name b.heard k apart low))
+    (sym (known_at b.members name b.heard k apart low))
 
 -- hearing and being told
 pub hears_as_member : (name : ℕ → ℕ) (b : Seated) (k : ℕ) (x : Message) → Apart b.members name → k < b.members → length b.heard ≡ b.members
@@ -99,6 +100,7 @@ none_known n (suc m) name p = both_same (p == name m) (at_seat (replicate n unhe
     at_none zero k = refl
     at_none (suc n) zero = refl
     at_none (suc n) (suc k) = at_none n k
+
     both_same : (b : Bool) (x y : Heard) → x ≡ unheard → y ≡ unheard → cond b x y ≡ unheard
     both_same true x y e f = e
     both_same false x y e f = f
@@ -108,9 +110,9 @@ pub seated_as_member : (name : ℕ → ℕ) (members me : ℕ) (vote : Slot) →
 seated_as_member name members me vote apart low =
     same_member (as_member name (seated members me vote)) (entered (name me) vote fresh) refl
     (λ p.
-      known_set members name (replicate members unheard) me (record unheard { vote = Some vote }) p apart low
-        (subst (λ (m : ℕ). me < m) (sym (length-replicate members unheard)) low)
-      ∙ put_same (name me) p (record unheard { vote = Some vote }) (known_of members name (replicate members unheard)) (λ q. none_known members members name q))
+    known_set members name (replicate members unheard) me (record unheard { vote = Some vote }) p apart low
+    (subst (λ (m : ℕ). me < m) (sym (length-replicate members unheard)) low)
+    ∙ put_same (name me) p (record unheard { vote = Some vote }) (known_of members name (replicate members unheard)) (λ q. none_known members members name q))
     refl refl
   where
     put_same : (k p : ℕ) (h : Heard) (f : ℕ → Heard) → ((q : ℕ) → f q ≡ unheard) → put f k h p ≡ put (λ q. unheard) k h p
@@ -130,8 +132,10 @@ turn_same n i seen other (Round r held) e = at_round (nat_lt r n) refl
   where
     is_below : (r n : ℕ) → nat_lt r n ≡ true → r < n
     is_below r n t = grind (arith, nat_tests)
+
     follows : Heard → Turn
     follows h = follow r held h.estimate (h.lost || h.left)
+
     at_round : (t : Bool) → nat_lt r n ≡ t
         → cond t (cond (r == i) (speak r held) (follow r held (seen r).estimate ((seen r).lost || (seen r).left))) (decide held)
         ≡ cond t (cond (r == i) (speak r held) (follow r held (other r).estimate ((other r).lost || (other r).left))) (decide held)
@@ -171,7 +175,7 @@ pub polled_as_member : (name : ℕ → ℕ) (b : Seated) → Apart b.members nam
 polled_as_member name b apart low whole =
     noted name b (seat_turn b).phase (seat_turn b).poll apart low whole
     ∙ ap (λ (t : Turn). record (as_member name b) { phase = t.phase; heard = put (known_of b.members name b.heard) (name b.me) (own_after t.poll (known_of b.members name b.heard (name b.me))) })
-      (seat_turn_of name b apart)
+    (seat_turn_of name b apart)
 
 -- a slot is unknown exactly where the vote is awaited
 slot_unknown : (vote : Option Slot) (lost left : Bool) → slot_of vote lost left ≡ None → (vote ≡ None) × (lost ≡ false) × (left ≡ false)
@@ -195,12 +199,12 @@ pub slots_none : (seen : ℕ → Heard) (n k : ℕ) → k < n → slot_of (seen 
 slots_none seen zero k l e = absurd (omega arith)
 slots_none seen (suc n) k l e =
     elim (cases_eq k n) [
-      inl same ↦
-      ap (λ (j : ℕ). with_slot (slots_of seen n) (slot_of (seen j).vote (seen j).lost (seen j).left)) (sym same)
-      ∙ ap (λ (o : Option Slot). with_slot (slots_of seen n) o) e
-      ∙ with_none (slots_of seen n)
-    | inr ne ↦
-      ap (λ (o : Option (List Slot)). with_slot o (slot_of (seen n).vote (seen n).lost (seen n).left)) (slots_none seen n k (omega (arith, ne)) e)
+      | inl same ↦
+          ap (λ (j : ℕ). with_slot (slots_of seen n) (slot_of (seen j).vote (seen j).lost (seen j).left)) (sym same)
+          ∙ ap (λ (o : Option Slot). with_slot (slots_of seen n) o) e
+          ∙ with_none (slots_of seen n)
+      | inr ne ↦
+          ap (λ (o : Option (List Slot)). with_slot o (slot_of (seen n).vote (seen n).lost (seen n).left)) (slots_none seen n k (omega (arith, ne)) e)
     ]
 
 none_found : (seen : ℕ → Heard) (n : ℕ) → slots_of seen n ≡ None → (k : ℕ) × (k < n) × NoVote (seen k)
@@ -216,9 +220,10 @@ none_found seen (suc n) e = last (slots_of seen n) refl (slot_of (seen n).vote (
 formed : (n : ℕ) (seen : ℕ → Heard) (o : Option (List Slot)) → slots_of seen n ≡ o → ((form o).poll ≡ poll.NotYet) ↔ ((k : ℕ) × (k < n) × NoVote (seen k))
 formed n seen None e =
     (λ q. none_found seen n e, λ m. refl)
-formed n seen (Some slots) e =
-    (λ q. absurd (cc),
-      λ m. absurd (let bad : None ≡ Some slots = sym (slots_none seen n m.0 m.1 (unknown_slot (seen m.0).vote (seen m.0).lost (seen m.0).left m.2.0 m.2.1 m.2.2)) ∙ e in cc))
+formed n seen (Some slots) e = (
+  λ q. absurd (cc),
+  λ m. absurd (let bad : None ≡ Some slots = sym (slots_none seen n m.0 m.1 (unknown_slot (seen m.0).vote (seen m.0).lost (seen m.0).left m.2.0 m.2.1 m.2.2)) ∙ e in cc),
+)
 
 followed : (r n i : ℕ) (held : List Slot) (h : Heard) (o : Option (List Slot)) (lost left : Bool) → h.estimate ≡ o → h.lost ≡ lost → h.left ≡ left
     → r < n → r ≢ i → ((follow r held o (lost || left)).poll ≡ poll.NotYet) ↔ ((r < n) × (r ≢ i) × NoEstimate h)
@@ -235,12 +240,16 @@ turn_waits n i seen (Round r held) = at_round (nat_lt r n) (r == i) refl refl
   where
     is_below : (r n : ℕ) → nat_lt r n ≡ true → r < n
     is_below r n t = grind (arith, nat_tests)
+
     is_past : (r n : ℕ) → nat_lt r n ≡ false → r < n → ⊥
     is_past r n t l = grind (arith, nat_tests)
+
     is_same : (r i : ℕ) → (r == i) ≡ true → r ≡ i
     is_same r i t = grind (arith, nat_tests)
+
     is_other : (r i : ℕ) → (r == i) ≡ false → r ≢ i
     is_other r i t = grind (arith, nat_tests)
+
     at_round : (a b : Bool) → nat_lt r n ≡ a → (r == i) ≡ b
         → ((cond a (cond b (speak r held) (follow r held (seen r).estimate ((seen r).lost || (seen r).left))) (decide held)).poll ≡ poll.NotYet)
         ↔ Awaits n i seen (Round r held)

@@ -1,10 +1,10 @@
 -- Who is past a round holds what the member of that round holds, while that member lives and hasn't left.
-use Rattle.std.proofs.Common.{◌≡◌, ℕ, ◌<◌, ◌≤◌, ◌≢◌, ◌==◌, suc, Bool, true, false, not, ◌&&◌, List, [], ◌∷◌, ◌++◌, Option, Some, None, arith, refl, subst, sym, ◌∙◌, ap}
+use Rattle.std.proofs.Common.{◌≡◌, ℕ, ◌<◌, ◌≤◌, ◌≢◌, suc, Bool, true, false, List, Some, arith, sym, ◌∙◌}
 use Rattle.std.proofs.lemmas.Bool.Decides.{nat_tests}
 use Rattle.fx_link.specs.declared.slot.Slot.{Slot}
 use Rattle.fx_ballot.specs.Turn.{Phase, Outside, Voting, Round, Decided, Message, Vote, Estimate, Leaving}
-use Rattle.fx_ballot.specs.World.{Member, World, put, stays, enters, leaves, kills, tells, Apart}
-use Rattle.fx_ballot.specs.Laws.{vote_of, estimate_of, held, past}
+use Rattle.fx_ballot.specs.World.{World, stays, enters, leaves, kills, tells, Apart}
+use Rattle.fx_ballot.specs.Laws.{estimate_of, held, past}
 use Rattle.fx_ballot.proofs.Grows.{goes, says, heard_by}
 use Rattle.fx_ballot.proofs.Messages.{Said}
 

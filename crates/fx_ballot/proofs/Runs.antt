@@ -1,9 +1,8 @@
 -- The laws, for every list of moves from the start.
-use Rattle.std.proofs.Common.{◌≡◌, ℕ, ◌<◌, ◌==◌, zero, suc, Bool, true, false, cond, not, ◌&&◌, List, [], ◌∷◌, Option, Some, None, arith, refl, subst, sym, ◌∙◌, ap}
+use Rattle.std.proofs.Common.{◌≡◌, ℕ, ◌<◌, ◌==◌, Bool, true, false, not, ◌&&◌, List, [], ◌∷◌, arith, refl}
 use Rattle.std.specs.Prelude.{nat_lt}
 use Rattle.std.proofs.lemmas.Bool.Decides.{nat_tests}
 use Rattle.std.proofs.lemmas.Bool.{cond_both}
-use Rattle.fx_link.specs.declared.slot.Slot.{Slot}
 use Rattle.fx_ballot.specs.Turn.{Phase, Outside, Voting, Round, Decided, Message}
 use Rattle.fx_ballot.specs.World.{Member, World, Move, Enter, Act, Hear, Leave, Kill, Tell, stays, is_outside, may_leave, among, Apart, start, enters, hears, leaves, kills, tells, acts, happens, run}
 use Rattle.fx_ballot.specs.Laws.{OneDecision, Origin, StillOpen, LeavingTellsAll, OwnSlot}
@@ -49,26 +48,26 @@ pub keeps : (n : ℕ) (name : ℕ → ℕ) (w : World) (move : Move) → Apart n
 keeps n name w (Enter i vote) apart h =
     cond_both {A = World} (nat_lt i n && (stays (w.member (name i)) && is_outside (w.member (name i)).phase)) (enters (among n name) (name i) vote w) w (Kept n name)
     (λ e.
-      let rest : Two (stays (w.member (name i))) (is_outside (w.member (name i)).phase) =
-        both (stays (w.member (name i))) (is_outside (w.member (name i)).phase)
-        (both (nat_lt i n) (stays (w.member (name i)) && is_outside (w.member (name i)).phase) e).second in
-      let out : (w.member (name i)).phase ≡ Outside = outside (w.member (name i)).phase rest.second in
-      let stay : (w.member (name i)).gone ≡ false = here (w.member (name i)) rest.first in
-      record {
-        sound = sound_enter n name (among n name) (name i) vote w out stay h.sound;
-        caught =
+    let rest : Two (stays (w.member (name i))) (is_outside (w.member (name i)).phase) =
+    both (stays (w.member (name i))) (is_outside (w.member (name i)).phase)
+    (both (nat_lt i n) (stays (w.member (name i)) && is_outside (w.member (name i)).phase) e).second in
+    let out : (w.member (name i)).phase ≡ Outside = outside (w.member (name i)).phase rest.second in
+    let stay : (w.member (name i)).gone ≡ false = here (w.member (name i)) rest.first in
+    record {
+      sound = sound_enter n name (among n name) (name i) vote w out stay h.sound;
+      caught =
           caught_enter (among n name) n name (among n name) (name i) vote w (λ p s. s) (h.sound.messages.knows.outside (name i) out) stay
           h.sound.messages h.caught;
-      })
+    })
     (λ e. h)
 keeps n name w (Act i) apart h =
     cond_both {A = World} (nat_lt i n && stays (w.member (name i))) (acts n name i w) w (Kept n name)
     (λ e.
-      let t : Two (nat_lt i n) (stays (w.member (name i))) = both (nat_lt i n) (stays (w.member (name i))) e in
-      record {
-        sound = sound_act n name i w apart (below i n t.first) t.second h.sound;
-        caught = caught_act n name i w (below i n t.first) t.second h.sound h.caught;
-      })
+    let t : Two (nat_lt i n) (stays (w.member (name i))) = both (nat_lt i n) (stays (w.member (name i))) e in
+    record {
+      sound = sound_act n name i w apart (below i n t.first) t.second h.sound;
+      caught = caught_act n name i w (below i n t.first) t.second h.sound h.caught;
+    })
     (λ e. h)
 keeps n name w (Hear i j) apart h =
     cond_both {A = World} (nat_lt i n && (nat_lt j n && (w.member (name j)).living)) (hears (name i) (name j) (w.link (name i) (name j)) w) w (Kept n name)
@@ -77,14 +76,14 @@ keeps n name w (Hear i j) apart h =
 keeps n name w (Leave i) apart h =
     cond_both {A = World} (nat_lt i n && (stays (w.member (name i)) && may_leave (w.member (name i)).phase)) (leaves (among n name) (name i) w) w (Kept n name)
     (λ e.
-      let rest : Two (stays (w.member (name i))) (may_leave (w.member (name i)).phase) =
-        both (stays (w.member (name i))) (may_leave (w.member (name i)).phase)
-        (both (nat_lt i n) (stays (w.member (name i)) && may_leave (w.member (name i)).phase) e).second in
-      let stay : (w.member (name i)).gone ≡ false = here (w.member (name i)) rest.first in
-      record {
-        sound = sound_leave n name (among n name) (name i) w rest.second h.sound;
-        caught = caught_leave (among n name) n name (among n name) (name i) w (λ p s. s) stay h.sound.messages h.caught;
-      })
+    let rest : Two (stays (w.member (name i))) (may_leave (w.member (name i)).phase) =
+    both (stays (w.member (name i))) (may_leave (w.member (name i)).phase)
+    (both (nat_lt i n) (stays (w.member (name i)) && may_leave (w.member (name i)).phase) e).second in
+    let stay : (w.member (name i)).gone ≡ false = here (w.member (name i)) rest.first in
+    record {
+      sound = sound_leave n name (among n name) (name i) w rest.second h.sound;
+      caught = caught_leave (among n name) n name (among n name) (name i) w (λ p s. s) stay h.sound.messages h.caught;
+    })
     (λ e. h)
 keeps n name w (Kill i) apart h =
     cond_both {A = World} (nat_lt i n) (kills (name i) w) w (Kept n name)
@@ -93,15 +92,15 @@ keeps n name w (Kill i) apart h =
 keeps n name w (Tell i j) apart h =
     cond_both {A = World} (nat_lt i n && (nat_lt j n && (not (i == j) && not (w.member (name i)).living))) (tells (name i) (name j) w) w (Kept n name)
     (λ e.
-      let one : Two (nat_lt j n) (not (i == j) && not (w.member (name i)).living) =
-        both (nat_lt j n) (not (i == j) && not (w.member (name i)).living)
-        (both (nat_lt i n) (nat_lt j n && (not (i == j) && not (w.member (name i)).living)) e).second in
-      let dead : (w.member (name i)).living ≡ false =
-        denied (w.member (name i)).living (both (not (i == j)) (not (w.member (name i)).living) one.second).second in
-      record {
-        sound = sound_tell n name (name i) (name j) w dead h.sound;
-        caught = caught_tell (among n name) (name i) (name j) w h.caught;
-      })
+    let one : Two (nat_lt j n) (not (i == j) && not (w.member (name i)).living) =
+    both (nat_lt j n) (not (i == j) && not (w.member (name i)).living)
+    (both (nat_lt i n) (nat_lt j n && (not (i == j) && not (w.member (name i)).living)) e).second in
+    let dead : (w.member (name i)).living ≡ false =
+    denied (w.member (name i)).living (both (not (i == j)) (not (w.member (name i)).living) one.second).second in
+    record {
+      sound = sound_tell n name (name i) (name j) w dead h.sound;
+      caught = caught_tell (among n name) (name i) (name j) w h.caught;
+    })
     (λ e. h)
 
 pub runs : (n : ℕ) (name : ℕ → ℕ) (moves : List Move) (w : World) → Apart n name → Kept n name w → Kept n name (run n name moves w)

@@ -1,11 +1,11 @@
 -- A leaving is the last that is heard of a member.
-use Rattle.std.proofs.Common.{◌≡◌, ℕ, ◌<◌, ◌≢◌, ◌==◌, Bool, true, false, cond, not, ◌&&◌, List, [], ◌∷◌, ◌++◌, Option, Some, None, ◌⊎◌, inl, inr, arith, refl, subst, sym, ◌∙◌, ap}
+use Rattle.std.proofs.Common.{◌≡◌, ℕ, ◌≢◌, ◌==◌, Bool, true, false, not, ◌&&◌, List, [], ◌∷◌, ◌++◌, None, inl, inr, arith, refl, subst, sym, ◌∙◌, ap}
 use Rattle.std.proofs.lemmas.Bool.Decides.{nat_tests}
 use Rattle.std.proofs.lemmas.Bool.{cond_both, cases_eq}
 use Rattle.fx_link.specs.declared.slot.Slot.{Slot}
 use Rattle.fx_ballot.specs.declared.heard.Heard.{Heard}
-use Rattle.fx_ballot.specs.Turn.{Phase, Outside, Voting, Round, Decided, Message, Vote, Estimate, Leaving, hear, earliest}
-use Rattle.fx_ballot.specs.World.{Member, World, put, put_link, told_all, stays, enters, hears, leaves, kills, tells, after}
+use Rattle.fx_ballot.specs.Turn.{Phase, Message, Vote, Estimate, Leaving, hear}
+use Rattle.fx_ballot.specs.World.{World, put_link, told_all, enters, hears, leaves, kills, tells}
 use Rattle.fx_ballot.specs.Laws.{vote_of, estimate_of, HeardAll}
 use Rattle.fx_ballot.proofs.Lists.{Each}
 use Rattle.fx_ballot.proofs.Grows.{goes, says, heard_by}
@@ -87,7 +87,7 @@ heard_kill o w p c = grind (arith, nat_tests)
 pub caught_kill : (sees : ℕ → Bool) (o : ℕ) (w : World) → Caught sees w → Caught sees (kills o w)
 caught_kill sees o w h = record {
   trail = λ p c s ne e.
-    trail_same w (kills o w) p c (alike_kill o w p c) (heard_kill o w p c) refl (h.trail p c s ne ((alike_kill o w p c).lost e));
+      trail_same w (kills o w) p c (alike_kill o w p c) (heard_kill o w p c) refl (h.trail p c s ne ((alike_kill o w p c).lost e));
 }
 
 alike_tell : (a b : ℕ) (w : World) (p c : ℕ) → Alike w (tells a b w) p c
@@ -101,8 +101,8 @@ told_pair a b w p c e = (grind (arith, nat_tests), grind (arith, nat_tests))
 pub caught_tell : (sees : ℕ → Bool) (a b : ℕ) (w : World) → Caught sees w → Caught sees (tells a b w)
 caught_tell sees a b w h = record {
   trail = λ p c s ne e.
-    let same : (((tells a b w).member p).heard c ≡ (w.member p).heard c) × ((tells a b w).link c p ≡ w.link c p) = told_pair a b w p c e in
-    trail_same w (tells a b w) p c (alike_tell a b w p c) same.0 same.1 (h.trail p c s ne ((alike_tell a b w p c).lost e));
+      let same : (((tells a b w).member p).heard c ≡ (w.member p).heard c) × ((tells a b w).link c p ≡ w.link c p) = told_pair a b w p c e in
+      trail_same w (tells a b w) p c (alike_tell a b w p c) same.0 same.1 (h.trail p c s ne ((alike_tell a b w p c).lost e));
 }
 
 own_kept : (link : ℕ → ℕ → List Message) (n : ℕ) (name : ℕ → ℕ) (a b c : ℕ) (x : Message) (w : World) → Said n name w a x
@@ -154,9 +154,9 @@ trail_this n name a b x rest w front said h =
     let link : ℕ → ℕ → List Message = put_link w.link a b rest in
     let like : Alike w (heard_by link a b x w) b a = alike_hear link n name a b x w b a said in
     let now : hear_all ((hears a b (x ∷ rest) w).link a b) (((hears a b (x ∷ rest) w).member b).heard a) ≡ hear_all (w.link a b) ((w.member b).heard a) =
-      ap (λ (ys : List Message). hear_all ys (((hears a b (x ∷ rest) w).member b).heard a)) (this_link w.link a b rest)
-      ∙ ap (λ (o : Heard). hear_all rest o) (this_heard link a b x w)
-      ∙ ap (λ (ys : List Message). hear_all ys ((w.member b).heard a)) (sym front) in
+    ap (λ (ys : List Message). hear_all ys (((hears a b (x ∷ rest) w).member b).heard a)) (this_link w.link a b rest)
+    ∙ ap (λ (o : Heard). hear_all rest o) (this_heard link a b x w)
+    ∙ ap (λ (ys : List Message). hear_all ys ((w.member b).heard a)) (sym front) in
     let last : LeavingLast (x ∷ rest) = subst LeavingLast front h.last in
     record {
       vote = ap (λ (o : Heard). o.vote) now ∙ h.vote ∙ sym like.vote;
@@ -164,8 +164,8 @@ trail_this n name a b x rest w front said h =
       left = ap (λ (o : Heard). o.left) now ∙ h.left ∙ sym like.gone;
       last = subst LeavingLast (sym (this_link w.link a b rest)) (last_rest x rest last);
       seen = λ s.
-        this_link w.link a b rest
-        ∙ seen_last x rest ((w.member b).heard a) (λ t. sym front ∙ h.seen t) last (sym (ap (λ (o : Heard). o.left) (this_heard link a b x w)) ∙ s);
+          this_link w.link a b rest
+          ∙ seen_last x rest ((w.member b).heard a) (λ t. sym front ∙ h.seen t) last (sym (ap (λ (o : Heard). o.left) (this_heard link a b x w)) ∙ s);
     }
 
 pub caught_hear : (sees : ℕ → Bool) (n : ℕ) (name : ℕ → ℕ) (a b : ℕ) (x : Message) (rest : List Message) (w : World)
@@ -175,12 +175,13 @@ caught_hear sees n name a b x rest w front m h =
     let link : ℕ → ℕ → List Message = put_link w.link a b rest in
     record {
       trail = λ p c s ne e.
-        let old : Trail w p c = h.trail p c s ne ((alike_hear link n name a b x w p c both.0).lost e) in
-        pair n name a b x rest w p c front both.0 old ((p == b) && (c == a)) refl;
+          let old : Trail w p c = h.trail p c s ne ((alike_hear link n name a b x w p c both.0).lost e) in
+          pair n name a b x rest w p c front both.0 old ((p == b) && (c == a)) refl;
     }
   where
     same_pair : (a b p c : ℕ) → ((p == b) && (c == a)) ≡ true → (b ≡ p) × (a ≡ c)
     same_pair a b p c e = grind (arith, nat_tests)
+
     pair : (n : ℕ) (name : ℕ → ℕ) (a b : ℕ) (x : Message) (rest : List Message) (w : World) (p c : ℕ) → w.link a b ≡ x ∷ rest → Said n name w a x
         → Trail w p c → (t : Bool) → ((p == b) && (c == a)) ≡ t → Trail (hears a b (x ∷ rest) w) p c
     pair n name a b x rest w p c front said old true t =
@@ -208,9 +209,9 @@ quiet_link to link o a b =
 pub caught_go : (sees to : ℕ → Bool) (o : ℕ) (phase : Phase) (w : World) → Caught sees w → Caught sees (goes (told_all to w.link o []) o phase w)
 caught_go sees to o phase w h = record {
   trail = λ p c s ne e.
-    let link : ℕ → ℕ → List Message = told_all to w.link o [] in
-    trail_same w (goes link o phase w) p c (alike_go link o phase w p c) (heard_go link o phase w p c) (quiet_link to w.link o c p)
-    (h.trail p c s ne ((alike_go link o phase w p c).lost e));
+      let link : ℕ → ℕ → List Message = told_all to w.link o [] in
+      trail_same w (goes link o phase w) p c (alike_go link o phase w p c) (heard_go link o phase w p c) (quiet_link to w.link o c p)
+      (h.trail p c s ne ((alike_go link o phase w p c).lost e));
 }
 
 -- a message that process o says to all others that are meant
@@ -235,9 +236,9 @@ trail_from n name to o y w v p b links t ne here m h =
     let link : v.link o p ≡ w.link o p ++ y ∷ [] = links ∙ near_link to w.link o (y ∷ []) p t ne in
     let before : Heard = hear_all (w.link o p) ((w.member p).heard o) in
     let now : hear_all (v.link o p) ((v.member p).heard o) ≡ hear y before =
-      ap (λ (ys : List Message). hear_all ys ((v.member p).heard o)) link
-      ∙ ap (λ (x : Heard). hear_all (w.link o p ++ y ∷ []) x) (b.heard p o ne)
-      ∙ hear_one_more (w.link o p) y ((w.member p).heard o) in
+    ap (λ (ys : List Message). hear_all ys ((v.member p).heard o)) link
+    ∙ ap (λ (x : Heard). hear_all (w.link o p ++ y ∷ []) x) (b.heard p o ne)
+    ∙ hear_one_more (w.link o p) y ((w.member p).heard o) in
     record {
       vote = ap (λ (x : Heard). x.vote) now ∙ b.own_vote before h.vote;
       estimate = ap (λ (x : Heard). x.estimate) now ∙ b.own_estimate before h.estimate;
@@ -251,23 +252,23 @@ caught_broadcast : (sees : ℕ → Bool) (n : ℕ) (name : ℕ → ℕ) (to : �
     → (w.member o).gone ≡ false → Broadcast o y w v → Messages n name w → Caught sees w → Caught sees v
 caught_broadcast sees n name to o y w v meant links here b m h = record {
   trail = λ p c s ne e.
-    let same : (v.member p).heard c ≡ (w.member p).heard c = b.heard p c ne in
-    let old : Trail w p c = h.trail p c s ne (sym (ap (λ (x : Heard). x.lost) same) ∙ e) in
-    elim (cases_eq c o) [
-      inl own ↦
-      let here_old : Trail w p o = subst (Trail w p) own old in
-      let ne_o : p ≢ o = λ q. ne (q ∙ sym own) in
-      subst (Trail v p) (sym own) (trail_from n name to o y w v p b (links o p) (meant p s) ne_o here m here_old)
-    | inr other ↦
-      trail_same w v p c
-      (record {
-        lost = λ l. sym (ap (λ (x : Heard). x.lost) same) ∙ l;
-        vote = b.vote c other;
-        estimate = b.estimate c other;
-        gone = b.gone c other;
-      })
-      same (links c p ∙ far_link to w.link o (y ∷ []) c p other) old
-    ];
+      let same : (v.member p).heard c ≡ (w.member p).heard c = b.heard p c ne in
+      let old : Trail w p c = h.trail p c s ne (sym (ap (λ (x : Heard). x.lost) same) ∙ e) in
+      elim (cases_eq c o) [
+        | inl own ↦
+            let here_old : Trail w p o = subst (Trail w p) own old in
+            let ne_o : p ≢ o = λ q. ne (q ∙ sym own) in
+            subst (Trail v p) (sym own) (trail_from n name to o y w v p b (links o p) (meant p s) ne_o here m here_old)
+        | inr other ↦
+            trail_same w v p c
+            (record {
+              lost = λ l. sym (ap (λ (x : Heard). x.lost) same) ∙ l;
+              vote = b.vote c other;
+              estimate = b.estimate c other;
+              gone = b.gone c other;
+            })
+            same (links c p ∙ far_link to w.link o (y ∷ []) c p other) old
+      ];
 }
 
 broadcast_enter : (to : ℕ → Bool) (o : ℕ) (vote : Slot) (w : World) → vote_of w o ≡ None → Broadcast o (Vote vote) w (enters to o vote w)
@@ -328,13 +329,13 @@ pub left_heard : (sees : ℕ → Bool) (w : World) (p c : ℕ) → Caught sees w
     → ((w.member p).heard c).lost ≡ false → HeardAll w p c
 left_heard sees w p c h s left lost =
     elim (cases_eq p c) [
-      inl same ↦ subst (HeardAll w p) same (record { vote = refl; estimate = refl })
-    | inr ne ↦
-      let t : Trail w p c = h.trail p c s ne lost in
-      let empty : hear_all (w.link c p) ((w.member p).heard c) ≡ (w.member p).heard c =
-        ap (λ (ys : List Message). hear_all ys ((w.member p).heard c)) (t.seen left) in
-      record {
-        vote = sym (ap (λ (x : Heard). x.vote) empty) ∙ t.vote;
-        estimate = sym (ap (λ (x : Heard). x.estimate) empty) ∙ t.estimate;
-      }
+      | inl same ↦ subst (HeardAll w p) same (record { vote = refl; estimate = refl })
+      | inr ne ↦
+          let t : Trail w p c = h.trail p c s ne lost in
+          let empty : hear_all (w.link c p) ((w.member p).heard c) ≡ (w.member p).heard c =
+          ap (λ (ys : List Message). hear_all ys ((w.member p).heard c)) (t.seen left) in
+          record {
+            vote = sym (ap (λ (x : Heard). x.vote) empty) ∙ t.vote;
+            estimate = sym (ap (λ (x : Heard). x.estimate) empty) ∙ t.estimate;
+          }
     ]

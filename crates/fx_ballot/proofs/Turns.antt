@@ -1,14 +1,14 @@
 -- A member's turn keeps all that is kept.
-use Rattle.std.proofs.Common.{◌≡◌, ℕ, ◌<◌, ◌≤◌, ◌≢◌, ◌==◌, zero, suc, Bool, true, false, cond, not, ◌&&◌, ◌||◌, List, [], ◌∷◌, ◌++◌, Option, Some, None, arith, refl, subst, sym, ◌∙◌, ap}
+use Rattle.std.proofs.Common.{◌≡◌, ℕ, ◌<◌, ◌≤◌, ◌≢◌, ◌==◌, suc, Bool, true, false, cond, ◌||◌, List, [], ◌∷◌, Option, Some, None, arith, refl, subst, sym, ◌∙◌, ap}
 use Rattle.std.specs.Prelude.{nat_lt}
 use Rattle.std.proofs.lemmas.Bool.Decides.{nat_tests}
 use Rattle.std.proofs.lemmas.Bool.{cond_both}
 use Rattle.fx_link.specs.declared.slot.Slot.{Slot}
 use Rattle.fx_ballot.specs.declared.heard.Heard.{Heard}
-use Rattle.fx_ballot.specs.Turn.{Phase, Outside, Voting, Round, Decided, Message, Vote, Estimate, Leaving, Turn, turn, waits, form, speak, follow, decide, slots_of, slot_of}
+use Rattle.fx_ballot.specs.Turn.{Phase, Outside, Voting, Round, Decided, Message, Estimate, Turn, turn, form, speak, follow, decide, slots_of}
 use Rattle.fx_ballot.specs.World.{Member, World, put, stays, Apart, own_after, sent_by, told_all, among, acts}
-use Rattle.fx_ballot.specs.Laws.{vote_of, estimate_of, held, past, TrueSlots}
-use Rattle.fx_ballot.proofs.Grows.{Grows, goes, says, grows_go, grows_say}
+use Rattle.fx_ballot.specs.Laws.{estimate_of, held, TrueSlots}
+use Rattle.fx_ballot.proofs.Grows.{goes, says, grows_go, grows_say}
 use Rattle.fx_ballot.proofs.Messages.{Messages, messages_go, messages_say}
 use Rattle.fx_ballot.proofs.Rounds.{Rounds, rounds_wait, rounds_form, rounds_speak, rounds_pass, rounds_adopt, rounds_decide}
 use Rattle.fx_ballot.proofs.Trails.{Caught, caught_go, caught_say}
@@ -24,8 +24,8 @@ pub record Sound (n : ℕ) (name : ℕ → ℕ) (w : World) : Type 0 where
 abbrev pub stepped : ℕ → (ℕ → ℕ) → ℕ → World → Turn → World
 stepped n name i w t = record {
   member =
-    put w.member (name i)
-    (record (w.member (name i)) { phase = t.phase; heard = put (w.member (name i)).heard (name i) (own_after t.poll ((w.member (name i)).heard (name i))) });
+      put w.member (name i)
+      (record (w.member (name i)) { phase = t.phase; heard = put (w.member (name i)).heard (name i) (own_after t.poll ((w.member (name i)).heard (name i))) });
   link = told_all (among n name) w.link (name i) (sent_by i t.poll);
 }
 
@@ -45,8 +45,8 @@ sound_go n name i phase w here out true_slots rounds h = record {
   messages = messages_go n name (among n name) (name i) phase w out h.messages;
   rounds = rounds;
   genuine =
-    genuine_turn n name (name i) phase w (goes (quiet n name i w) (name i) phase w) (grows_go (quiet n name i w) (name i) phase w)
-    (turned_go (quiet n name i w) (name i) phase w) (not_gone (w.member (name i)) here) true_slots h.genuine;
+      genuine_turn n name (name i) phase w (goes (quiet n name i w) (name i) phase w) (grows_go (quiet n name i w) (name i) phase w)
+      (turned_go (quiet n name i w) (name i) phase w) (not_gone (w.member (name i)) here) true_slots h.genuine;
 }
 
 sound_wait : (n : ℕ) (name : ℕ → ℕ) (i : ℕ) (phase : Phase) (w : World) → stays (w.member (name i)) ≡ true → (w.member (name i)).phase ≡ phase
@@ -66,14 +66,14 @@ sound_form n name i w low here at h None e = sound_wait n name i Voting w here a
 sound_form n name i w low here at h (Some slots) e =
     sound_go n name i (Round 0 slots) w here (λ bad. absurd (cc))
     (λ others same.
-      let known : TrueSlots n name w slots =
-        slots_true name w (seen_by name i w) n
-        (λ k slot l s.
-          slot_true n name w i k slot low here at h.messages.knows h.rounds h.genuine
-          (seen_by name i w k).vote (seen_by name i w k).lost (seen_by name i w k).left refl refl refl s)
-        slots e in
-      let equal : slots ≡ others = cc in
-      subst (TrueSlots n name w) equal known)
+    let known : TrueSlots n name w slots =
+    slots_true name w (seen_by name i w) n
+    (λ k slot l s.
+    slot_true n name w i k slot low here at h.messages.knows h.rounds h.genuine
+    (seen_by name i w k).vote (seen_by name i w k).lost (seen_by name i w k).left refl refl refl s)
+    slots e in
+    let equal : slots ≡ others = cc in
+    subst (TrueSlots n name w) equal known)
     (rounds_form (quiet n name i w) n name i slots w low here at h.rounds) h
 
 -- before its own round a member has said no estimate
@@ -93,9 +93,9 @@ sound_speak n name i r slots w apart low here at own h =
       messages = messages_say n name (among n name) i (Round (suc i) slots) slots w low (λ bad. absurd (cc)) none h.messages;
       rounds = rounds_speak link n name i slots w apart low here now h.rounds;
       genuine =
-        genuine_turn n name (name i) (Round (suc i) slots) w v (grows_say link (name i) (Round (suc i) slots) slots w none)
-        (turned_say link (name i) (Round (suc i) slots) slots w) (not_gone (w.member (name i)) here)
-        (λ s e. h.genuine.lists (name i) s (ap held now ∙ e)) h.genuine;
+          genuine_turn n name (name i) (Round (suc i) slots) w v (grows_say link (name i) (Round (suc i) slots) slots w none)
+          (turned_say link (name i) (Round (suc i) slots) slots w) (not_gone (w.member (name i)) here)
+          (λ s e. h.genuine.lists (name i) s (ap held now ∙ e)) h.genuine;
     })
 
 away : (n : ℕ) (name : ℕ → ℕ) (i r : ℕ) (w : World) (lost left : Bool) → Messages n name w
@@ -115,7 +115,7 @@ sound_follow n name i r slots w apart low lower other here at h None true e a =
     sound_go n name i (Round (suc r) slots) w here (λ bad. absurd (cc))
     (λ s same. h.genuine.lists (name i) s (ap held at ∙ same))
     (rounds_pass (quiet n name i w) n name i r slots w apart low lower other here
-      (away n name i r w (seen_by name i w r).lost (seen_by name i w r).left h.messages refl refl a) at h.rounds)
+    (away n name i r w (seen_by name i w r).lost (seen_by name i w r).left h.messages refl refl a) at h.rounds)
     h
 sound_follow n name i r slots w apart low lower other here at h None false e a = sound_wait n name i (Round r slots) w here at h
 
@@ -147,13 +147,13 @@ turned n name i w apart low here h (Round r slots) at =
     (cond (r == i) (speak r slots) (follow r slots (seen_by name i w r).estimate ((seen_by name i w r).lost || (seen_by name i w r).left)))
     (decide slots) (λ (t : Turn). Sound n name (stepped n name i w t))
     (λ below.
-      cond_both {A = Turn} (r == i) (speak r slots)
-      (follow r slots (seen_by name i w r).estimate ((seen_by name i w r).lost || (seen_by name i w r).left))
-      (λ (t : Turn). Sound n name (stepped n name i w t))
-      (λ own. sound_speak n name i r slots w apart low here at (is_same r i own) h)
-      (λ other.
-        sound_follow n name i r slots w apart low (is_below r n below) (is_other r i other) here at h
-        (seen_by name i w r).estimate ((seen_by name i w r).lost || (seen_by name i w r).left) refl refl))
+    cond_both {A = Turn} (r == i) (speak r slots)
+    (follow r slots (seen_by name i w r).estimate ((seen_by name i w r).lost || (seen_by name i w r).left))
+    (λ (t : Turn). Sound n name (stepped n name i w t))
+    (λ own. sound_speak n name i r slots w apart low here at (is_same r i own) h)
+    (λ other.
+    sound_follow n name i r slots w apart low (is_below r n below) (is_other r i other) here at h
+    (seen_by name i w r).estimate ((seen_by name i w r).lost || (seen_by name i w r).left) refl refl))
     (λ beyond. sound_decide n name i r slots w apart low (is_past r n beyond) here at h)
 turned n name i w apart low here h (Decided slots) at = sound_wait n name i (Decided slots) w here at h
 
@@ -198,11 +198,11 @@ caught_turned n name i w low here h c (Round r slots) at =
     (cond (r == i) (speak r slots) (follow r slots (seen_by name i w r).estimate ((seen_by name i w r).lost || (seen_by name i w r).left)))
     (decide slots) (λ (t : Turn). Caught (among n name) (stepped n name i w t))
     (λ below.
-      cond_both {A = Turn} (r == i) (speak r slots)
-      (follow r slots (seen_by name i w r).estimate ((seen_by name i w r).lost || (seen_by name i w r).left))
-      (λ (t : Turn). Caught (among n name) (stepped n name i w t))
-      (λ own. caught_speak n name i r slots w low here at (is_same r i own) h c)
-      (λ other. caught_follow n name i r slots w c (seen_by name i w r).estimate ((seen_by name i w r).lost || (seen_by name i w r).left)))
+    cond_both {A = Turn} (r == i) (speak r slots)
+    (follow r slots (seen_by name i w r).estimate ((seen_by name i w r).lost || (seen_by name i w r).left))
+    (λ (t : Turn). Caught (among n name) (stepped n name i w t))
+    (λ own. caught_speak n name i r slots w low here at (is_same r i own) h c)
+    (λ other. caught_follow n name i r slots w c (seen_by name i w r).estimate ((seen_by name i w r).lost || (seen_by name i w r).left)))
     (λ beyond. caught_quiet n name i (Decided slots) w c)
 caught_turned n name i w low here h c (Decided slots) at = caught_quiet n name i (Decided slots) w c
 

@@ -2,8 +2,8 @@
 use Rattle.std.specs.Prelude.{◌≡◌, ◌⊎◌, ◌<◌, ℕ, Bool, true, false, nat_lt, List, [], ◌∷◌, length, slice_get, Option, Some, None}
 use Rattle.fx_link.specs.declared.slot.Slot.{Slot}
 use Rattle.fx_link.specs.declared.slot.Slot.TheVariants.{Lost, Left}
-use Rattle.fx_ballot.specs.Turn.{Phase, Outside, Voting, Round, Decided, Message, Vote, Estimate, Leaving}
-use Rattle.fx_ballot.specs.World.{Member, World, stays, among}
+use Rattle.fx_ballot.specs.Turn.{Phase, Outside, Voting, Round, Decided, Message, Estimate}
+use Rattle.fx_ballot.specs.World.{World, stays, among}
 
 -- the vote that a process cast, where it entered
 abbrev pub vote_of : World → ℕ → Option Slot

@@ -1,5 +1,5 @@
 -- The ballot world: members by process, a link for each ordered pair, and the moves.
-use Rattle.std.specs.Prelude.{◌≡◌, ◌<◌, ℕ, zero, suc, Bool, true, false, not, ◌&&◌, if◌then◌else◌, ◌==◌, nat_lt, List, [], ◌∷◌, ◌++◌, Option, Some, None}
+use Rattle.std.specs.Prelude.{◌≡◌, ◌<◌, ℕ, zero, suc, Bool, true, false, not, ◌&&◌, if◌then◌else◌, ◌==◌, nat_lt, List, [], ◌∷◌, ◌++◌, Some}
 use Rattle.fx_link.specs.declared.slot.Slot.{Slot}
 use Rattle.fx_ballot.specs.declared.heard.Heard.{Heard}
 use Rattle.fx_ballot.specs.declared.poll.Poll.{Poll}
@@ -142,7 +142,7 @@ happens n name w (Hear i j) =
     if nat_lt i n && (nat_lt j n && (w.member (name j)).living) then hears (name i) (name j) (w.link (name i) (name j)) w else w
 happens n name w (Leave i) =
     if nat_lt i n && (stays (w.member (name i)) && may_leave (w.member (name i)).phase)
-        then leaves (among n name) (name i) w else w
+    then leaves (among n name) (name i) w else w
 happens n name w (Kill i) = if nat_lt i n then kills (name i) w else w
 happens n name w (Tell i j) =
     if nat_lt i n && (nat_lt j n && (not (i == j) && not (w.member (name i)).living)) then tells (name i) (name j) w else w

@@ -1,5 +1,5 @@
-use Rattle.std.proofs.Common.{arith, ◌≡◌, length, Some, false}
-use Rattle.std.proofs.lemmas.Grind.{common_steps, elements}
+use Rattle.std.proofs.Common.{arith, Some, false}
+use Rattle.std.proofs.lemmas.Grind.{elements}
 use Rattle.std.specs.Vec.{with_item}
 use Rattle.fx_agree.specs.contracts.ballot.Ballot.{the_view}
 use Rattle.fx_agree.specs.declared.stage.Stage.TheVariants as stage

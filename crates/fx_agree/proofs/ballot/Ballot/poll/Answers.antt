@@ -1,4 +1,4 @@
-use Rattle.std.proofs.Common.{rules, ◌≡◌, ◌<◌, ◌∙◌, ap, subst, sym, length}
+use Rattle.std.proofs.Common.{◌≡◌, ◌<◌, ◌∙◌, ap, length}
 use Rattle.fx_ballot.specs.Turn.{Turn}
 use Rattle.fx_ballot.proofs.Readings.{in_world_polled, seat_turn_of, turn_waits_as}
 use Rattle.fx_agree.proofs.ballot.Ballot.poll.Goals as goal
