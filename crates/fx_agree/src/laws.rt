@@ -2,7 +2,7 @@
 //! that are apart, and for the members 0 to n - 1. That anybody decides is not among them.
 ghost use Rattle.std.specs.Prelude.{ℕ, List};
 ghost use Rattle.fx_ballot.specs.World.{Move, Apart, plain, run, start};
-ghost use Rattle.fx_ballot.specs.Laws.{OneDecision, Origin, StillOpen, LeavingTellsAll, OwnSlot};
+ghost use Rattle.fx_ballot.specs.Laws.{OneDecision, Origin, StillOpen, LeavingTellsAll, OwnSlot, RoundsNameTheirSender, Happened};
 
 /// Two members that decide hold the same slots, also where one of them is killed, or leaves, after it decided.
 pub fn one_decision()
@@ -36,4 +36,17 @@ pub fn leaving_tells_all()
 pub fn own_slot()
     ensures under_names { (n : ℕ) (name : ℕ → ℕ) (moves : List Move) → Apart n name → OwnSlot n name (run n name moves start) }
     ensures of_plain_members { (n : ℕ) (moves : List Move) → OwnSlot n plain (run n plain moves start) }
+{}
+
+/// An estimate that is under way was sent by the member of its round.
+pub fn rounds_name_their_sender()
+    ensures under_names { (n : ℕ) (name : ℕ → ℕ) (moves : List Move) → Apart n name → RoundsNameTheirSender n name (run n name moves start) }
+    ensures of_plain_members { (n : ℕ) (moves : List Move) → RoundsNameTheirSender n plain (run n plain moves start) }
+{}
+
+/// What the other laws call a vote that was cast, one that left and one that was killed came about by a move of the list: an
+/// entering with that vote, a leaving, a killing.
+pub fn happened()
+    ensures under_names { (n : ℕ) (name : ℕ → ℕ) (moves : List Move) → Apart n name → Happened name moves (run n name moves start) }
+    ensures of_plain_members { (n : ℕ) (moves : List Move) → Happened plain moves (run n plain moves start) }
 {}

@@ -6,7 +6,7 @@ use Rattle.std.proofs.lemmas.Option.{slice_get-get_or}
 use Rattle.fx_link.specs.declared.slot.Slot.{Slot}
 use Rattle.fx_ballot.specs.Turn.{Phase, Outside, Voting, Round, Decided, Message, Estimate}
 use Rattle.fx_ballot.specs.World.{World, stays, may_leave, start, enters, hears, leaves, kills, tells, put_link}
-use Rattle.fx_ballot.specs.Laws.{vote_of, estimate_of, held, past, Reaches, OneDecision, IsTrueSlot, TrueSlots, Settled}
+use Rattle.fx_ballot.specs.Laws.{vote_of, estimate_of, held, past, Reaches, StandsIn, OneDecision, IsTrueSlot, TrueSlots, Settled}
 use Rattle.fx_ballot.proofs.Lists.{Each, each_in}
 use Rattle.fx_ballot.proofs.Messages.{Said, Knows, messages_kill, messages_tell, messages_leave, messages_enter, messages_hear}
 use Rattle.fx_ballot.proofs.Rounds.{Rounds, rounds_kill, rounds_tell, rounds_leave, rounds_enter, rounds_hear}
@@ -64,6 +64,7 @@ blank_knows w h = record {
   lost = λ p c e. h.lost p c e;
   left = λ p c e. grind (arith, h.left p c);
   outside = λ c e. h.vote c c;
+  entered = λ c e. h.phase c;
 }
 
 blank_rounds : (n : ℕ) (name : ℕ → ℕ) (w : World) → Blank w → Rounds n name w
@@ -147,6 +148,15 @@ sound_origin n name w h p slots e = h.genuine.lists p slots e
 pub sound_silent : (n : ℕ) (name : ℕ → ℕ) (w : World) → Sound n name w → (p : ℕ) → (w.member p).phase ≡ Outside → vote_of w p ≡ None
 sound_silent n name w h p out = h.messages.knows.outside p out
 
+-- who has cast no vote hasn't entered
+pub sound_entered : (n : ℕ) (name : ℕ → ℕ) (w : World) → Sound n name w → (p : ℕ) → vote_of w p ≡ None → (w.member p).phase ≡ Outside
+sound_entered n name w h p none = h.messages.knows.entered p none
+
+-- an estimate that is under way is its sender's, and its round is the sender's seat
+pub sound_sender : (n : ℕ) (name : ℕ → ℕ) (w : World) → Sound n name w → (a q r : ℕ) (slots : List Slot)
+    → StandsIn (Estimate r slots) (w.link a q) → (estimate_of w a ≡ Some slots) × (r < n) × (name r ≡ a)
+sound_sender n name w h a q r slots e = each_in (Said n name w a) (Estimate r slots) (w.link a q) (h.messages.links a q) e
+
 -- an estimate that reaches a process is what the member of its round sent
 pub sound_sent : (n : ℕ) (name : ℕ → ℕ) (w : World) → Sound n name w → (q r : ℕ) (slots : List Slot)
     → Reaches w name q r slots → estimate_of w (name r) ≡ Some slots
@@ -161,10 +171,11 @@ pub sound_estimate : (n : ℕ) (name : ℕ → ℕ) (w : World) → Sound n name
 sound_estimate n name w h r slots low e = h.genuine.lists (name r) slots (h.rounds.spoke r slots low e).1
 
 -- a member that voted and lives has its own vote in its own slot
-pub own_slot : (w : World) (p : ℕ) (slot vote : Slot) → vote_of w p ≡ Some vote → (w.member p).living ≡ true → IsTrueSlot w p slot → slot ≡ vote
-own_slot w p slot vote voted living (inl e) = cc
-own_slot w p slot vote voted living (inr (inl e)) = absurd (let bad : true ≡ false = sym living ∙ e.1 in cc)
-own_slot w p slot vote voted living (inr (inr e)) = absurd (let bad : Some vote ≡ None = sym voted ∙ e.2 in cc)
+pub own_slot : (w : World) (p : ℕ) (slot vote : Slot) → ((w.member p).phase ≡ Outside → vote_of w p ≡ None)
+    → vote_of w p ≡ Some vote → (w.member p).living ≡ true → IsTrueSlot w p slot → slot ≡ vote
+own_slot w p slot vote silent voted living (inl e) = cc
+own_slot w p slot vote silent voted living (inr (inl e)) = absurd (let bad : true ≡ false = sym living ∙ e.1 in cc)
+own_slot w p slot vote silent voted living (inr (inr e)) = absurd (let bad : Some vote ≡ None = sym voted ∙ silent e.2 in cc)
 
 pub sound_own_slot : (n : ℕ) (name : ℕ → ℕ) (w : World) → Sound n name w → (i r : ℕ) (slots : List Slot) (vote : Slot) → i < n → r < n
     → vote_of w (name i) ≡ Some vote → (w.member (name i)).living ≡ true → Reaches w name (name i) r slots → slice_get slots i ≡ Some vote
@@ -172,7 +183,7 @@ sound_own_slot n name w h i r slots vote low lower voted living reach =
     let t : TrueSlots n name w slots = sound_estimate n name w h r slots lower (sound_sent n name w h (name i) r slots reach) in
     let inside : i < length slots = subst (λ (k : ℕ). i < k) (sym t.size) low in
     let at : slice_get slots i ≡ Some (get_or slots i vote) = slice_get-get_or slots i vote inside in
-    at ∙ ap (λ (s : Slot). Some s) (own_slot w (name i) (get_or slots i vote) vote voted living (t.each i (get_or slots i vote) at))
+    at ∙ ap (λ (s : Slot). Some s) (own_slot w (name i) (get_or slots i vote) vote (h.messages.knows.outside (name i)) voted living (t.each i (get_or slots i vote) at))
 
 -- once somebody decided
 round_between : (i r k : ℕ) → nat_lt i k ≡ true → nat_lt r k ≡ false → i < r

@@ -6,5 +6,7 @@ pub mod Origins
 pub mod Trails
 pub mod Turns
 pub mod Face
+pub mod Strangers
 pub mod Runs
 pub mod Readings
+pub mod Happenings

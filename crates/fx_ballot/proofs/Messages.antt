@@ -54,6 +54,7 @@ pub record Knows (w : World) : Type 0 where
   pub lost : (p c : ℕ) → ((w.member p).heard c).lost ≡ true → (w.member c).living ≡ false
   pub left : (p c : ℕ) → ((w.member p).heard c).left ≡ true → (w.member c).gone ≡ true
   pub outside : (c : ℕ) → (w.member c).phase ≡ Outside → vote_of w c ≡ None
+  pub entered : (c : ℕ) → vote_of w c ≡ None → (w.member c).phase ≡ Outside
 
 pub record Messages (n : ℕ) (name : ℕ → ℕ) (w : World) : Type 0 where
   pub knows : Knows w
@@ -66,6 +67,7 @@ knows_kill p w h = record {
   lost = λ o c e. grind (arith, nat_tests, h.lost o c);
   left = λ o c e. grind (arith, nat_tests, h.left o c);
   outside = λ c e. grind (arith, nat_tests, h.outside c);
+  entered = λ c e. grind (arith, nat_tests, h.entered c);
 }
 
 pub knows_tell : (p q : ℕ) (w : World) → (w.member p).living ≡ false → Knows w → Knows (tells p q w)
@@ -75,6 +77,7 @@ knows_tell p q w dead h = record {
   lost = λ o c e. grind (arith, nat_tests, h.lost o c);
   left = λ o c e. grind (arith, nat_tests, h.left o c);
   outside = λ c e. grind (arith, nat_tests, h.outside c);
+  entered = λ c e. grind (arith, nat_tests, h.entered c);
 }
 
 pub knows_leave : (to : ℕ → Bool) (p : ℕ) (w : World) → Knows w → Knows (leaves to p w)
@@ -84,6 +87,7 @@ knows_leave to p w h = record {
   lost = λ q c e. grind (arith, nat_tests, h.lost q c);
   left = λ q c e. grind (arith, nat_tests, h.left q c);
   outside = λ c e. grind (arith, nat_tests, h.outside c);
+  entered = λ c e. grind (arith, nat_tests, h.entered c);
 }
 
 pub knows_enter : (to : ℕ → Bool) (p : ℕ) (vote : Slot) (w : World) → (w.member p).phase ≡ Outside → Knows w → Knows (enters to p vote w)
@@ -93,6 +97,7 @@ knows_enter to p vote w out h = record {
   lost = λ q c e. grind (arith, nat_tests, h.lost q c);
   left = λ q c e. grind (arith, nat_tests, h.left q c);
   outside = λ c e. grind (arith, nat_tests, h.outside c);
+  entered = λ c e. grind (arith, nat_tests, h.entered c);
 }
 
 vote_keeps_estimates : (link : ℕ → ℕ → List Message) (a b q c : ℕ) (s : Slot) (w : World)
@@ -118,6 +123,7 @@ knows_hear_vote link a b s w said h = record {
   lost = λ q c e. grind (arith, nat_tests, h.lost q c);
   left = λ q c e. grind (arith, nat_tests, h.left q c);
   outside = λ c e. grind (arith, nat_tests, h.outside c);
+  entered = λ c e. grind (arith, nat_tests, h.entered c);
 }
 
 pub knows_hear_estimate : (link : ℕ → ℕ → List Message) (a b r : ℕ) (s : List Slot) (w : World) → estimate_of w a ≡ Some s → Knows w → Knows (heard_by link a b (Estimate r s) w)
@@ -127,6 +133,7 @@ knows_hear_estimate link a b r s w said h = record {
   lost = λ q c e. grind (arith, nat_tests, h.lost q c);
   left = λ q c e. grind (arith, nat_tests, h.left q c);
   outside = λ c e. grind (arith, nat_tests, h.outside c);
+  entered = λ c e. grind (arith, nat_tests, h.entered c);
 }
 
 pub knows_hear_leaving : (link : ℕ → ℕ → List Message) (a b : ℕ) (w : World) → (w.member a).gone ≡ true → Knows w → Knows (heard_by link a b Leaving w)
@@ -136,6 +143,7 @@ knows_hear_leaving link a b w said h = record {
   lost = λ q c e. grind (arith, nat_tests, h.lost q c);
   left = λ q c e. grind (arith, nat_tests, h.left q c);
   outside = λ c e. grind (arith, nat_tests, h.outside c);
+  entered = λ c e. grind (arith, nat_tests, h.entered c);
 }
 
 pub knows_hear : (link : ℕ → ℕ → List Message) (n : ℕ) (name : ℕ → ℕ) (a b : ℕ) (x : Message) (w : World)
@@ -150,23 +158,26 @@ said_vote n name w a (Estimate r t) said s e = absurd (cc)
 said_vote n name w a Leaving said s e = absurd (cc)
 
 pub knows_go : (link : ℕ → ℕ → List Message) (p : ℕ) (phase : Phase) (w : World)
-    → (phase ≡ Outside → (w.member p).phase ≡ Outside) → Knows w → Knows (goes link p phase w)
-knows_go link p phase w out h = record {
+    → (phase ≡ Outside → (w.member p).phase ≡ Outside) → ((w.member p).phase ≡ Outside → phase ≡ Outside) → Knows w → Knows (goes link p phase w)
+knows_go link p phase w out still h = record {
   votes = λ q c s e. grind (arith, nat_tests, h.votes q c s);
   estimates = λ q c s e. grind (arith, nat_tests, h.estimates q c s);
   lost = λ q c e. grind (arith, nat_tests, h.lost q c);
   left = λ q c e. grind (arith, nat_tests, h.left q c);
   outside = λ c e. grind (arith, nat_tests, h.outside c, out);
+  entered = λ c e. grind (arith, nat_tests, h.entered c, h.entered p, still);
 }
 
 pub knows_say : (link : ℕ → ℕ → List Message) (p : ℕ) (phase : Phase) (slots : List Slot) (w : World)
-    → (phase ≡ Outside → ⊥) → ((s : List Slot) → estimate_of w p ≡ Some s → ⊥) → Knows w → Knows (says link p phase slots w)
-knows_say link p phase slots w out none h = record {
+    → (phase ≡ Outside → ⊥) → ((w.member p).phase ≡ Outside → ⊥) → ((s : List Slot) → estimate_of w p ≡ Some s → ⊥) → Knows w
+    → Knows (says link p phase slots w)
+knows_say link p phase slots w out still none h = record {
   votes = λ q c s e. grind (arith, nat_tests, h.votes q c s);
   estimates = λ q c s e. grind (arith, nat_tests, h.estimates q c s, none s);
   lost = λ q c e. grind (arith, nat_tests, h.lost q c);
   left = λ q c e. grind (arith, nat_tests, h.left q c);
   outside = λ c e. grind (arith, nat_tests, h.outside c, out);
+  entered = λ c e. grind (arith, nat_tests, h.entered c, h.entered p, still);
 }
 
 pub messages_kill : (n : ℕ) (name : ℕ → ℕ) (p : ℕ) (w : World) → Messages n name w → Messages n name (kills p w)
@@ -216,27 +227,28 @@ messages_hear n name a b x rest w front h =
     }
 
 pub messages_go : (n : ℕ) (name : ℕ → ℕ) (to : ℕ → Bool) (p : ℕ) (phase : Phase) (w : World)
-    → (phase ≡ Outside → (w.member p).phase ≡ Outside) → Messages n name w → Messages n name (goes (told_all to w.link p []) p phase w)
-messages_go n name to p phase w out h =
+    → (w.member p).gone ≡ false → (phase ≡ Outside → (w.member p).phase ≡ Outside) → ((w.member p).phase ≡ Outside → phase ≡ Outside)
+    → Messages n name w → Messages n name (goes (told_all to w.link p []) p phase w)
+messages_go n name to p phase w here out still h =
     let v : World = goes (told_all to w.link p []) p phase w in
     record {
-      knows = knows_go (told_all to w.link p []) p phase w out h.knows;
-      links = links_told n name v w.link to p [] (links_grow n name w v w.link (grows_go (told_all to w.link p []) p phase w) h.links) tt;
+      knows = knows_go (told_all to w.link p []) p phase w out still h.knows;
+      links = links_told n name v w.link to p [] (links_grow n name w v w.link (grows_go (told_all to w.link p []) p phase w here) h.links) tt;
     }
 
 said_now : (link : ℕ → ℕ → List Message) (p : ℕ) (phase : Phase) (slots : List Slot) (w : World) → estimate_of (says link p phase slots w) p ≡ Some slots
 said_now link p phase slots w = grind (arith, nat_tests)
 
 pub messages_say : (n : ℕ) (name : ℕ → ℕ) (to : ℕ → Bool) (i : ℕ) (phase : Phase) (slots : List Slot) (w : World)
-    → i < n → (phase ≡ Outside → ⊥) → ((s : List Slot) → estimate_of w (name i) ≡ Some s → ⊥) → Messages n name w
+    → i < n → (w.member (name i)).gone ≡ false → (phase ≡ Outside → ⊥) → ((w.member (name i)).phase ≡ Outside → ⊥) → ((s : List Slot) → estimate_of w (name i) ≡ Some s → ⊥) → Messages n name w
     → Messages n name (says (told_all to w.link (name i) (Estimate i slots ∷ [])) (name i) phase slots w)
-messages_say n name to i phase slots w low out none h =
+messages_say n name to i phase slots w low here out still none h =
     let link : ℕ → ℕ → List Message = told_all to w.link (name i) (Estimate i slots ∷ []) in
     let v : World = says link (name i) phase slots w in
     record {
-      knows = knows_say link (name i) phase slots w out none h.knows;
+      knows = knows_say link (name i) phase slots w out still none h.knows;
       links =
           links_told n name v w.link to (name i) (Estimate i slots ∷ [])
-          (links_grow n name w v w.link (grows_say link (name i) phase slots w none) h.links)
+          (links_grow n name w v w.link (grows_say link (name i) phase slots w here none) h.links)
           ((said_now link (name i) phase slots w, low, refl), tt);
     }

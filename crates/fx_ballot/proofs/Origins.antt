@@ -5,7 +5,7 @@ use Rattle.std.proofs.lemmas.Bool.Decides.{nat_tests}
 use Rattle.fx_link.specs.declared.slot.Slot.{Slot}
 use Rattle.fx_link.specs.declared.slot.Slot.TheVariants.{Lost, Left}
 use Rattle.fx_ballot.specs.declared.heard.Heard.{Heard}
-use Rattle.fx_ballot.specs.Turn.{Phase, Voting, Message, slots_of, slot_of, with_slot}
+use Rattle.fx_ballot.specs.Turn.{Outside, Phase, Voting, Message, slots_of, slot_of, with_slot}
 use Rattle.fx_ballot.specs.World.{World, stays, may_leave, enters, leaves, kills, tells}
 use Rattle.fx_ballot.specs.Laws.{vote_of, held, IsTrueSlot, TrueSlots}
 use Rattle.std.proofs.lemmas.Bool.{cases_eq}
@@ -16,7 +16,7 @@ use Rattle.fx_ballot.proofs.Rounds.{Rounds, Still, still_hear, still_kill, still
 pub true_grows : (w v : World) → Grows w v → (p : ℕ) (slot : Slot) → IsTrueSlot w p slot → IsTrueSlot v p slot
 true_grows w v g p slot (inl e) = inl (g.vote p slot e)
 true_grows w v g p slot (inr (inl e)) = inr (inl (e.0, g.killed p e.1))
-true_grows w v g p slot (inr (inr e)) = inr (inr (e.0, g.gone p e.1, g.silent p e.1 e.2))
+true_grows w v g p slot (inr (inr e)) = inr (inr (e.0, g.gone p e.1, g.outside p e.1 e.2))
 
 pub record Genuine (n : ℕ) (name : ℕ → ℕ) (w : World) : Type 0 where
   pub lists : (p : ℕ) (slots : List Slot) → held (w.member p).phase ≡ Some slots → TrueSlots n name w slots
@@ -53,9 +53,9 @@ length_one [] x = refl
 length_one (y ∷ xs) x = omega (arith, length_one xs x)
 
 -- one that left, seen by a member that gathers votes, left without having entered
-silent_left : (n : ℕ) (name : ℕ → ℕ) (w : World) (i k : ℕ) → i < n → stays (w.member (name i)) ≡ true → (w.member (name i)).phase ≡ Voting
-    → Knows w → Rounds n name w → (w.member (name k)).gone ≡ true → may_leave (w.member (name k)).phase ≡ true → vote_of w (name k) ≡ None
-silent_left n name w i k low here at kn ro gone may = grind (arith, nat_tests, at, may, ro.agree i (name k) low here, kn.outside (name k))
+outside_left : (n : ℕ) (name : ℕ → ℕ) (w : World) (i k : ℕ) → i < n → stays (w.member (name i)) ≡ true → (w.member (name i)).phase ≡ Voting
+    → Knows w → Rounds n name w → (w.member (name k)).gone ≡ true → may_leave (w.member (name k)).phase ≡ true → (w.member (name k)).phase ≡ Outside
+outside_left n name w i k low here at kn ro gone may = grind (arith, nat_tests, at, may, ro.agree i (name k) low here)
 
 pub slots_true : (name : ℕ → ℕ) (w : World) (seen : ℕ → Heard) (n : ℕ)
     → ((k : ℕ) (slot : Slot) → k < n → slot_of (seen k).vote (seen k).lost (seen k).left ≡ Some slot → IsTrueSlot w (name k) slot)
@@ -154,5 +154,5 @@ slot_true n name w i k slot low here at kn ro ge None true left ev el ef e =
     let same : slot ≡ Lost = cc in inr (inl (same, kn.lost (name i) (name k) el))
 slot_true n name w i k slot low here at kn ro ge None false true ev el ef e =
     let same : slot ≡ Left = cc in
-    inr (inr (same, kn.left (name i) (name k) ef, silent_left n name w i k low here at kn ro (kn.left (name i) (name k) ef) (ge.parted (name k) (kn.left (name i) (name k) ef))))
+    inr (inr (same, kn.left (name i) (name k) ef, outside_left n name w i k low here at kn ro (kn.left (name i) (name k) ef) (ge.parted (name k) (kn.left (name i) (name k) ef))))
 slot_true n name w i k slot low here at kn ro ge None false false ev el ef e = absurd (cc)

@@ -1,14 +1,14 @@
 -- The laws, for every list of moves from the start.
-use Rattle.std.proofs.Common.{◌≡◌, ℕ, ◌<◌, ◌==◌, Bool, true, false, not, ◌&&◌, List, [], ◌∷◌, arith, refl}
+use Rattle.std.proofs.Common.{Some, ◌≡◌, ℕ, ◌<◌, ◌==◌, Bool, true, false, not, ◌&&◌, List, [], ◌∷◌, arith, refl}
 use Rattle.std.specs.Prelude.{nat_lt}
 use Rattle.std.proofs.lemmas.Bool.Decides.{nat_tests}
 use Rattle.std.proofs.lemmas.Bool.{cond_both}
 use Rattle.fx_ballot.specs.Turn.{Phase, Outside, Voting, Round, Decided, Message}
 use Rattle.fx_ballot.specs.World.{Member, World, Move, Enter, Act, Hear, Leave, Kill, Tell, stays, is_outside, may_leave, among, Apart, start, enters, hears, leaves, kills, tells, acts, happens, run}
-use Rattle.fx_ballot.specs.Laws.{OneDecision, Origin, StillOpen, LeavingTellsAll, OwnSlot}
+use Rattle.fx_ballot.specs.Laws.{OneDecision, Origin, StillOpen, LeavingTellsAll, OwnSlot, RoundsNameTheirSender, estimate_of}
 use Rattle.fx_ballot.proofs.Trails.{Caught, caught_kill, caught_tell, caught_hear, caught_enter, caught_leave, left_heard}
 use Rattle.fx_ballot.proofs.Turns.{Sound, sound_act, caught_act}
-use Rattle.fx_ballot.proofs.Face.{blank_start, sound_blank, caught_blank, sound_kill, sound_tell, sound_leave, sound_enter, sound_hear, sound_one, sound_origin, sound_own_slot, sound_settled}
+use Rattle.fx_ballot.proofs.Face.{blank_start, sound_blank, caught_blank, sound_kill, sound_tell, sound_leave, sound_enter, sound_hear, sound_one, sound_origin, sound_own_slot, sound_settled, sound_sender}
 
 -- what is kept by every move
 pub record Kept (n : ℕ) (name : ℕ → ℕ) (w : World) : Type 0 where
@@ -126,3 +126,9 @@ leaving_tells_all n name moves apart p c member left lost =
 
 pub own_slots : (n : ℕ) (name : ℕ → ℕ) (moves : List Move) → Apart n name → OwnSlot n name (run n name moves start)
 own_slots n name moves apart = sound_own_slot n name (run n name moves start) (kept n name moves apart).sound
+
+pub rounds_name_their_sender : (n : ℕ) (name : ℕ → ℕ) (moves : List Move) → Apart n name → RoundsNameTheirSender n name (run n name moves start)
+rounds_name_their_sender n name moves apart a q r slots e =
+    let said : (estimate_of (run n name moves start) a ≡ Some slots) × (r < n) × (name r ≡ a) =
+    sound_sender n name (run n name moves start) (kept n name moves apart).sound a q r slots e in
+    (said.1, said.2)

@@ -105,7 +105,7 @@ caught_tell sees a b w h = record {
       trail_same w (tells a b w) p c (alike_tell a b w p c) same.0 same.1 (h.trail p c s ne ((alike_tell a b w p c).lost e));
 }
 
-own_kept : (link : ℕ → ℕ → List Message) (n : ℕ) (name : ℕ → ℕ) (a b c : ℕ) (x : Message) (w : World) → Said n name w a x
+pub own_kept : (link : ℕ → ℕ → List Message) (n : ℕ) (name : ℕ → ℕ) (a b c : ℕ) (x : Message) (w : World) → Said n name w a x
     → (vote_of (heard_by link a b x w) c ≡ vote_of w c) × (estimate_of (heard_by link a b x w) c ≡ estimate_of w c)
 own_kept link n name a b c (Vote s) w said = (grind (arith, nat_tests, said), grind (arith, nat_tests))
 own_kept link n name a b c (Estimate r s) w said = (grind (arith, nat_tests), grind (arith, nat_tests, said.0))
@@ -117,7 +117,7 @@ lost_kept link a b p c (Vote s) w = grind (arith, nat_tests)
 lost_kept link a b p c (Estimate r s) w = grind (arith, nat_tests)
 lost_kept link a b p c Leaving w = grind (arith, nat_tests)
 
-gone_kept : (link : ℕ → ℕ → List Message) (a b c : ℕ) (x : Message) (w : World) → ((heard_by link a b x w).member c).gone ≡ (w.member c).gone
+pub gone_kept : (link : ℕ → ℕ → List Message) (a b c : ℕ) (x : Message) (w : World) → ((heard_by link a b x w).member c).gone ≡ (w.member c).gone
 gone_kept link a b c x w = grind (arith, nat_tests)
 
 alike_hear : (link : ℕ → ℕ → List Message) (n : ℕ) (name : ℕ → ℕ) (a b : ℕ) (x : Message) (w : World) (p c : ℕ)

@@ -38,21 +38,21 @@ not_gone m e = grind (arith, nat_tests)
 
 -- a turn after which the member holds what it held, or true slots
 sound_go : (n : ℕ) (name : ℕ → ℕ) (i : ℕ) (phase : Phase) (w : World) → stays (w.member (name i)) ≡ true
-    → (phase ≡ Outside → (w.member (name i)).phase ≡ Outside)
+    → (phase ≡ Outside → (w.member (name i)).phase ≡ Outside) → ((w.member (name i)).phase ≡ Outside → phase ≡ Outside)
     → ((slots : List Slot) → held phase ≡ Some slots → TrueSlots n name w slots)
     → Rounds n name (goes (quiet n name i w) (name i) phase w) → Sound n name w → Sound n name (goes (quiet n name i w) (name i) phase w)
-sound_go n name i phase w here out true_slots rounds h = record {
-  messages = messages_go n name (among n name) (name i) phase w out h.messages;
+sound_go n name i phase w here out still true_slots rounds h = record {
+  messages = messages_go n name (among n name) (name i) phase w (not_gone (w.member (name i)) here) out still h.messages;
   rounds = rounds;
   genuine =
-      genuine_turn n name (name i) phase w (goes (quiet n name i w) (name i) phase w) (grows_go (quiet n name i w) (name i) phase w)
+      genuine_turn n name (name i) phase w (goes (quiet n name i w) (name i) phase w) (grows_go (quiet n name i w) (name i) phase w (not_gone (w.member (name i)) here))
       (turned_go (quiet n name i w) (name i) phase w) (not_gone (w.member (name i)) here) true_slots h.genuine;
 }
 
 sound_wait : (n : ℕ) (name : ℕ → ℕ) (i : ℕ) (phase : Phase) (w : World) → stays (w.member (name i)) ≡ true → (w.member (name i)).phase ≡ phase
     → Sound n name w → Sound n name (goes (quiet n name i w) (name i) phase w)
 sound_wait n name i phase w here at h =
-    sound_go n name i phase w here (λ e. at ∙ e)
+    sound_go n name i phase w here (λ e. at ∙ e) (λ e. sym at ∙ e)
     (λ slots e. h.genuine.lists (name i) slots (ap held at ∙ e))
     (rounds_wait (quiet n name i w) n name (name i) phase w at h.rounds) h
 
@@ -64,7 +64,7 @@ sound_form : (n : ℕ) (name : ℕ → ℕ) (i : ℕ) (w : World) → i < n → 
     → Sound n name w → (slots : Option (List Slot)) → slots_of (seen_by name i w) n ≡ slots → Sound n name (stepped n name i w (form slots))
 sound_form n name i w low here at h None e = sound_wait n name i Voting w here at h
 sound_form n name i w low here at h (Some slots) e =
-    sound_go n name i (Round 0 slots) w here (λ bad. absurd (cc))
+    sound_go n name i (Round 0 slots) w here (λ bad. absurd (cc)) (λ bad. absurd (let outside : Voting ≡ Outside = sym at ∙ bad in cc))
     (λ others same.
     let known : TrueSlots n name w slots =
     slots_true name w (seen_by name i w) n
@@ -90,10 +90,10 @@ sound_speak n name i r slots w apart low here at own h =
     let v : World = says link (name i) (Round (suc i) slots) slots w in
     subst (λ (k : ℕ). Sound n name (stepped n name i w (speak k slots))) (sym own)
     (record {
-      messages = messages_say n name (among n name) i (Round (suc i) slots) slots w low (λ bad. absurd (cc)) none h.messages;
+      messages = messages_say n name (among n name) i (Round (suc i) slots) slots w low (not_gone (w.member (name i)) here) (λ bad. absurd (cc)) (λ bad. let no_phase : Round i slots ≡ Outside = sym now ∙ bad in cc) none h.messages;
       rounds = rounds_speak link n name i slots w apart low here now h.rounds;
       genuine =
-          genuine_turn n name (name i) (Round (suc i) slots) w v (grows_say link (name i) (Round (suc i) slots) slots w none)
+          genuine_turn n name (name i) (Round (suc i) slots) w v (grows_say link (name i) (Round (suc i) slots) slots w (not_gone (w.member (name i)) here) none)
           (turned_say link (name i) (Round (suc i) slots) slots w) (not_gone (w.member (name i)) here)
           (λ s e. h.genuine.lists (name i) s (ap held now ∙ e)) h.genuine;
     })
@@ -108,11 +108,11 @@ sound_follow : (n : ℕ) (name : ℕ → ℕ) (i r : ℕ) (slots : List Slot) (w
     → ((seen_by name i w r).lost || (seen_by name i w r).left) ≡ absent → Sound n name (stepped n name i w (follow r slots estimate absent))
 sound_follow n name i r slots w apart low lower other here at h (Some new) absent e a =
     let said : estimate_of w (name r) ≡ Some new = h.messages.knows.estimates (name i) (name r) new e in
-    sound_go n name i (Round (suc r) new) w here (λ bad. absurd (cc))
+    sound_go n name i (Round (suc r) new) w here (λ bad. absurd (cc)) (λ bad. absurd (let outside : Round r slots ≡ Outside = sym at ∙ bad in cc))
     (λ s same. h.genuine.lists (name r) s ((h.rounds.spoke r new lower said).1 ∙ same))
     (rounds_adopt (quiet n name i w) n name i r slots new w apart low lower other here said at h.rounds) h
 sound_follow n name i r slots w apart low lower other here at h None true e a =
-    sound_go n name i (Round (suc r) slots) w here (λ bad. absurd (cc))
+    sound_go n name i (Round (suc r) slots) w here (λ bad. absurd (cc)) (λ bad. absurd (let outside : Round r slots ≡ Outside = sym at ∙ bad in cc))
     (λ s same. h.genuine.lists (name i) s (ap held at ∙ same))
     (rounds_pass (quiet n name i w) n name i r slots w apart low lower other here
     (away n name i r w (seen_by name i w r).lost (seen_by name i w r).left h.messages refl refl a) at h.rounds)
@@ -122,7 +122,7 @@ sound_follow n name i r slots w apart low lower other here at h None false e a =
 sound_decide : (n : ℕ) (name : ℕ → ℕ) (i r : ℕ) (slots : List Slot) (w : World) → Apart n name → i < n → n ≤ r → stays (w.member (name i)) ≡ true
     → (w.member (name i)).phase ≡ Round r slots → Sound n name w → Sound n name (stepped n name i w (decide slots))
 sound_decide n name i r slots w apart low all here at h =
-    sound_go n name i (Decided slots) w here (λ bad. absurd (cc))
+    sound_go n name i (Decided slots) w here (λ bad. absurd (cc)) (λ bad. absurd (let outside : Round r slots ≡ Outside = sym at ∙ bad in cc))
     (λ s same. h.genuine.lists (name i) s (ap held at ∙ same))
     (rounds_decide (quiet n name i w) n name i r slots w apart low all here at h.rounds) h
 

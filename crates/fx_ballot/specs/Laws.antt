@@ -3,7 +3,7 @@ use Rattle.std.specs.Prelude.{◌≡◌, ◌⊎◌, ◌<◌, ℕ, Bool, true, fa
 use Rattle.fx_link.specs.declared.slot.Slot.{Slot}
 use Rattle.fx_link.specs.declared.slot.Slot.TheVariants.{Lost, Left}
 use Rattle.fx_ballot.specs.Turn.{Phase, Outside, Voting, Round, Decided, Message, Estimate}
-use Rattle.fx_ballot.specs.World.{World, stays, among}
+use Rattle.fx_ballot.specs.World.{World, stays, among, Move, Enter, Act, Hear, Leave, Kill, Tell}
 
 -- the vote that a process cast, where it entered
 abbrev pub vote_of : World → ℕ → Option Slot
@@ -43,7 +43,7 @@ OneDecision w = (p q : ℕ) (f g : List Slot) → (w.member p).phase ≡ Decided
 -- the slot of a process is its vote; or it is lost, and the process was killed; or left, and the process left without having entered
 abbrev pub IsTrueSlot : World → ℕ → Slot → Type 0
 IsTrueSlot w p slot =
-    (vote_of w p ≡ Some slot) ⊎ ((slot ≡ Lost) × ((w.member p).living ≡ false)) ⊎ ((slot ≡ Left) × ((w.member p).gone ≡ true) × (vote_of w p ≡ None))
+    (vote_of w p ≡ Some slot) ⊎ ((slot ≡ Lost) × ((w.member p).living ≡ false)) ⊎ ((slot ≡ Left) × ((w.member p).gone ≡ true) × ((w.member p).phase ≡ Outside))
 
 -- one slot for each seat, each a true slot of the process at its seat
 pub record TrueSlots (n : ℕ) (name : ℕ → ℕ) (w : World) (slots : List Slot) : Type 0 where
@@ -80,3 +80,45 @@ abbrev pub OwnSlot : ℕ → (ℕ → ℕ) → World → Type 0
 OwnSlot n name w =
     (i r : ℕ) (slots : List Slot) (vote : Slot) → i < n → r < n → vote_of w (name i) ≡ Some vote → (w.member (name i)).living ≡ true
     → Reaches w name (name i) r slots → slice_get slots i ≡ Some vote
+
+-- an estimate that is under way was sent by the member of its round
+abbrev pub RoundsNameTheirSender : ℕ → (ℕ → ℕ) → World → Type 0
+RoundsNameTheirSender n name w = (a q r : ℕ) (slots : List Slot) → StandsIn (Estimate r slots) (w.link a q) → (r < n) × (name r ≡ a)
+
+-- the move is the entering of process p with the vote
+abbrev pub EntersWith : (ℕ → ℕ) → ℕ → Slot → Move → Type 0
+EntersWith name p vote (Enter i slot) = (name i ≡ p) × (slot ≡ vote)
+EntersWith name p vote (Act i) = ⊥
+EntersWith name p vote (Hear i j) = ⊥
+EntersWith name p vote (Leave i) = ⊥
+EntersWith name p vote (Kill i) = ⊥
+EntersWith name p vote (Tell i j) = ⊥
+
+-- the move is the leaving of process p
+abbrev pub Leaves : (ℕ → ℕ) → ℕ → Move → Type 0
+Leaves name p (Enter i slot) = ⊥
+Leaves name p (Act i) = ⊥
+Leaves name p (Hear i j) = ⊥
+Leaves name p (Leave i) = name i ≡ p
+Leaves name p (Kill i) = ⊥
+Leaves name p (Tell i j) = ⊥
+
+-- the move is the killing of process p
+abbrev pub KillsIt : (ℕ → ℕ) → ℕ → Move → Type 0
+KillsIt name p (Enter i slot) = ⊥
+KillsIt name p (Act i) = ⊥
+KillsIt name p (Hear i j) = ⊥
+KillsIt name p (Leave i) = ⊥
+KillsIt name p (Kill i) = name i ≡ p
+KillsIt name p (Tell i j) = ⊥
+
+-- it holds of some move of the list
+abbrev pub SomeMove : (Move → Type 0) → List Move → Type 0
+SomeMove P [] = ⊥
+SomeMove P (move ∷ moves) = P move ⊎ SomeMove P moves
+
+-- a vote that counts as cast was cast by an entering, who is gone left by a leaving, who doesn't live was killed
+pub record Happened (name : ℕ → ℕ) (moves : List Move) (w : World) : Type 0 where
+  pub votes : (p : ℕ) (vote : Slot) → vote_of w p ≡ Some vote → SomeMove (EntersWith name p vote) moves
+  pub gone : (p : ℕ) → (w.member p).gone ≡ true → SomeMove (Leaves name p) moves
+  pub killed : (p : ℕ) → (w.member p).living ≡ false → SomeMove (KillsIt name p) moves
