@@ -1,7 +1,7 @@
 ghost use Rattle.std.specs.Prelude.{◌≡◌, ◌≢◌, ◌<◌, ◌≤◌, ◌↔◌, ℕ, List, replicate, true, length, IfOk, OnOk, OnErr, IsErr};
 ghost use Rattle.fx_ballot.specs.Turn.{Vote, Estimate, Leaving, Voting, Round, Decided, slot_of, slots_of, unheard};
 ghost use Rattle.fx_ballot.specs.World.{Apart, entered, fresh, after, told, acted, turn_of};
-ghost use Rattle.fx_link.specs.declared.slot.Slot.{Slot as ForSlot};
+ghost use Rattle.fx_link.specs.declared.slot.Slot.{Slot};
 ghost use Rattle.fx_agree.specs.Stages.{IsRound};
 ghost use Rattle.fx_ballot.specs.Seats.{at_seat, seated, hears_seat, told_seat, seat_turn, polled, spent, as_member, InWorld, Awaits};
 
@@ -125,7 +125,7 @@ impl Ballot {
             (name : ℕ → ℕ) → Apart self.old.members name
             → answer ≡ (turn_of self.old.members name self.old.me (as_member name self.old)).poll) }
         ensures waits_for_a_message { IfOk result (λ answer. (answer ≡ Poll.NotYet) ↔ Awaits self.old.members self.old.me (at_seat self.old.heard) self.old.phase) }
-        ensures stays_decided { (slots : List ForSlot) → self.old.phase ≡ Decided slots
+        ensures stays_decided { (slots : List Slot) → self.old.phase ≡ Decided slots
             → OnOk result (self.new ≡ self.old) × IfOk result (λ answer. answer ≡ Poll.Decided slots) }
         ensures no_memory { OnErr result (self.new ≡ spent self.old) }
         ensures stays_failed { self.old.failed ≡ true → IsErr result }

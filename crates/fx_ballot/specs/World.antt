@@ -35,6 +35,7 @@ start = record { member = λ p. fresh; link = λ a b. [] }
 abbrev pub stays : Member → Bool
 stays m = m.living && not m.gone
 
+-- it hasn't entered
 abbrev pub is_outside : Phase → Bool
 is_outside Outside = true
 is_outside Voting = false
@@ -48,7 +49,7 @@ may_leave Voting = false
 may_leave (Round r held) = false
 may_leave (Decided held) = true
 
--- the member once it heard a message of process p
+-- the member once it heard a message of process p. An estimate is kept under its sender, which is the member of its round
 abbrev pub after : ℕ → Message → Member → Member
 after p x m = record m { heard = put m.heard p (hear x (m.heard p)) }
 
