@@ -1,14 +1,15 @@
 -- The laws, for every list of moves from the start.
-use Rattle.std.proofs.Common.{Some, ◌≡◌, ℕ, ◌<◌, ◌==◌, Bool, true, false, not, ◌&&◌, List, [], ◌∷◌, arith, refl}
-use Rattle.std.specs.Prelude.{nat_lt}
+use Rattle.std.proofs.Common.{Some, ◌≡◌, ℕ, ◌<◌, ◌==◌, Bool, true, false, not, ◌&&◌, List, [], ◌∷◌, arith, refl, sym, ap, ◌∙◌}
+use Rattle.std.specs.Prelude.{nat_lt, slice_get, Option, None, IsSome}
+use Rattle.fx_link.specs.declared.slot.Slot.{Slot}
 use Rattle.std.proofs.lemmas.Bool.Decides.{nat_tests}
 use Rattle.std.proofs.lemmas.Bool.{cond_both}
 use Rattle.fx_ballot.specs.Turn.{Phase, Outside, Voting, Round, Decided, Message}
 use Rattle.fx_ballot.specs.World.{Member, World, Move, Enter, Act, Hear, Leave, Kill, Tell, stays, is_outside, may_leave, among, Apart, start, enters, hears, leaves, kills, tells, acts, happens, run}
-use Rattle.fx_ballot.specs.Laws.{OneDecision, Origin, StillOpen, LeavingTellsAll, OwnSlot, RoundsNameTheirSender, estimate_of}
+use Rattle.fx_ballot.specs.Laws.{OneDecision, Origin, StillOpen, LeavingTellsAll, OwnSlot, RoundsNameTheirSender, estimate_of, vote_of}
 use Rattle.fx_ballot.proofs.Trails.{Caught, caught_kill, caught_tell, caught_hear, caught_enter, caught_leave, left_heard}
 use Rattle.fx_ballot.proofs.Turns.{Sound, sound_act, caught_act}
-use Rattle.fx_ballot.proofs.Face.{blank_start, sound_blank, caught_blank, sound_kill, sound_tell, sound_leave, sound_enter, sound_hear, sound_one, sound_origin, sound_own_slot, sound_settled, sound_sender}
+use Rattle.fx_ballot.proofs.Face.{blank_start, sound_blank, caught_blank, sound_kill, sound_tell, sound_leave, sound_enter, sound_hear, sound_one, sound_origin, sound_own_slot, sound_settled, sound_sender, sound_entered}
 
 -- what is kept by every move
 pub record Kept (n : ℕ) (name : ℕ → ℕ) (w : World) : Type 0 where
@@ -124,8 +125,21 @@ pub leaving_tells_all : (n : ℕ) (name : ℕ → ℕ) (moves : List Move) → A
 leaving_tells_all n name moves apart p c member left lost =
     left_heard (among n name) (run n name moves start) p c (kept n name moves apart).caught member left lost
 
+-- one that isn't outside has cast a vote
+has_voted : (phase : Phase) (o : Option Slot) → (o ≡ None → phase ≡ Outside) → is_outside phase ≡ false → IsSome o
+has_voted phase None none inside = absurd (let bad : true ≡ false = sym (ap is_outside (none refl)) ∙ inside in cc)
+has_voted phase (Some vote) none inside = refl
+
+own_found : (o : Option Slot) (found : Option Slot) → IsSome o → ((vote : Slot) → o ≡ Some vote → found ≡ Some vote) → found ≡ o
+own_found None found some each = absurd (let bad : false ≡ true = some in cc)
+own_found (Some vote) found some each = each vote refl
+
 pub own_slots : (n : ℕ) (name : ℕ → ℕ) (moves : List Move) → Apart n name → OwnSlot n name (run n name moves start)
-own_slots n name moves apart = sound_own_slot n name (run n name moves start) (kept n name moves apart).sound
+own_slots n name moves apart i r slots low lower inside living reach =
+    let w : World = run n name moves start in
+    let h : Sound n name w = (kept n name moves apart).sound in
+    let some : IsSome (vote_of w (name i)) = has_voted (w.member (name i)).phase (vote_of w (name i)) (sound_entered n name w h (name i)) inside in
+    (own_found (vote_of w (name i)) (slice_get slots i) some (λ vote voted. sound_own_slot n name w h i r slots vote low lower voted living reach), some)
 
 pub rounds_name_their_sender : (n : ℕ) (name : ℕ → ℕ) (moves : List Move) → Apart n name → RoundsNameTheirSender n name (run n name moves start)
 rounds_name_their_sender n name moves apart a q r slots e =

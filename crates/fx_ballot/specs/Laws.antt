@@ -1,9 +1,9 @@
 -- What holds in every state that a list of moves leads to.
-use Rattle.std.specs.Prelude.{◌≡◌, ◌⊎◌, ◌<◌, ℕ, Bool, true, false, nat_lt, List, [], ◌∷◌, length, slice_get, Option, Some, None}
+use Rattle.std.specs.Prelude.{◌≡◌, ◌⊎◌, ◌<◌, ℕ, Bool, true, false, nat_lt, List, [], ◌∷◌, length, slice_get, Option, Some, None, IsSome}
 use Rattle.fx_link.specs.declared.slot.Slot.{Slot}
 use Rattle.fx_link.specs.declared.slot.Slot.TheVariants.{Lost, Left}
 use Rattle.fx_ballot.specs.Turn.{Phase, Outside, Voting, Round, Decided, Message, Estimate}
-use Rattle.fx_ballot.specs.World.{World, stays, among, Move, Enter, Act, Hear, Leave, Kill, Tell}
+use Rattle.fx_ballot.specs.World.{World, stays, is_outside, among, Move, Enter, Act, Hear, Leave, Kill, Tell}
 
 -- the vote that a process cast, where it entered
 abbrev pub vote_of : World → ℕ → Option Slot
@@ -61,6 +61,7 @@ pub record Settled (n : ℕ) (name : ℕ → ℕ) (w : World) (decided : List Sl
   pub holds : held (w.member (name i)).phase ≡ Some decided
   pub adopts : (r : ℕ) (slots : List Slot) → r < n → past r (w.member (name i)).phase ≡ false → Reaches w name (name i) r slots → slots ≡ decided
 
+-- what still is open once somebody decided is settled, for each member that stays
 abbrev pub StillOpen : ℕ → (ℕ → ℕ) → World → Type 0
 StillOpen n name w =
     (p : ℕ) (decided : List Slot) → (w.member p).phase ≡ Decided decided
@@ -71,15 +72,17 @@ pub record HeardAll (w : World) (p c : ℕ) : Type 0 where
   pub vote : ((w.member p).heard c).vote ≡ vote_of w c
   pub estimate : ((w.member p).heard c).estimate ≡ estimate_of w c
 
+-- a leaving that was seen, where no loss was told, tells that all was heard
 abbrev pub LeavingTellsAll : ℕ → (ℕ → ℕ) → World → Type 0
 LeavingTellsAll n name w =
     (p c : ℕ) → among n name p ≡ true → ((w.member p).heard c).left ≡ true → ((w.member p).heard c).lost ≡ false → HeardAll w p c
 
--- a member that has entered and lives finds its own vote in its own slot of every estimate that it heard or that is under way to it
+-- a member that has entered and lives has cast a vote, and finds it in its own slot of every estimate that it heard or that is
+-- under way to it
 abbrev pub OwnSlot : ℕ → (ℕ → ℕ) → World → Type 0
 OwnSlot n name w =
-    (i r : ℕ) (slots : List Slot) (vote : Slot) → i < n → r < n → vote_of w (name i) ≡ Some vote → (w.member (name i)).living ≡ true
-    → Reaches w name (name i) r slots → slice_get slots i ≡ Some vote
+    (i r : ℕ) (slots : List Slot) → i < n → r < n → is_outside (w.member (name i)).phase ≡ false → (w.member (name i)).living ≡ true
+    → Reaches w name (name i) r slots → (slice_get slots i ≡ vote_of w (name i)) × IsSome (vote_of w (name i))
 
 -- an estimate that is under way was sent by the member of its round
 abbrev pub RoundsNameTheirSender : ℕ → (ℕ → ℕ) → World → Type 0
