@@ -3,7 +3,7 @@ ghost use Rattle.fx_ballot.specs.Turn.{Vote, Estimate, Leaving, Voting, Round, D
 ghost use Rattle.fx_ballot.specs.World.{Apart, entered, fresh, after, told, acted, turn_of};
 ghost use Rattle.fx_link.specs.declared.slot.Slot.{Slot};
 ghost use Rattle.fx_agree.specs.Stages.{IsRound};
-ghost use Rattle.fx_ballot.specs.Seats.{at_seat, seated, hears_seat, told_seat, seat_turn, polled, spent, as_member, InWorld, Awaits};
+ghost use Rattle.fx_ballot.specs.Seats.{at_seat, seated, hears_seat, told_seat, seat_turn, polled, spent, as_member, InWorld, Awaits, Whole, WholePoll};
 
 use crate::stage::Stage;
 use fx_ballot::{Heard, Poll};
@@ -35,11 +35,12 @@ impl Model for Ballot {
 }
 
 impl Ballot {
-    /// The ballot of the member at seat `me`, of 1 to 32 members, that votes so.
+    /// The ballot of the member at seat `me`, below `members`, of 1 to 32 members, that votes so. Fails only without memory.
     pub fn new(alloc: Global, members: u8, me: u8, vote: Slot) -> Result<Ballot, NoMemory>
         requires few { members ≤ 32 }
         requires member { me < members }
         ensures gathers_votes { IfOk result (λ ballot. ballot ≡ seated members me vote) }
+        ensures has_one_slot_each { IfOk result (λ ballot. Whole ballot) }
         ensures has_entered { IfOk result (λ ballot. (name : ℕ → ℕ) → Apart members name → as_member name ballot ≡ entered (name me) vote fresh) }
     {
         let mut heard = nobody_heard(alloc, members)?;
@@ -53,12 +54,13 @@ impl Ballot {
         })
     }
 
-    /// The vote of the member at seat `from` came. A second one changes nothing.
+    /// The vote of the member at seat `from`, below the number of members, came. A second one changes nothing.
     pub fn on_vote(&mut self, from: u8, slot: Slot)
         requires { from < self.old.members }
         ensures has_heard { self.new ≡ hears_seat from (Vote slot) self.old }
         ensures has_heard_in_the_world { InWorld self.old self.new (λ name. after (name from) (Vote slot)) }
         ensures keeps_its_members { self.new.members ≡ self.old.members }
+        ensures stays_whole { Whole self.old → Whole self.new }
     {
         let heard = &mut self.heard[usize::from(from)];
         if heard.vote.is_none() {
@@ -66,7 +68,8 @@ impl Ballot {
         }
     }
 
-    /// The estimate of round `round` came, with one slot for each member. A second one of this round changes nothing.
+    /// The estimate of round `round`, below the number of members, came, with one slot for each member. A second one of this
+    /// round changes nothing. Fails only without memory, and then every later call that can fail does.
     pub fn on_estimate(&mut self, round: u8, slots: &Slots) -> Result<(), NoMemory>
         requires below { round < self.old.members }
         requires whole { length slots.now ≡ self.old.members }
@@ -75,6 +78,7 @@ impl Ballot {
         ensures no_memory { OnErr result (self.new ≡ spent self.old) }
         ensures stays_failed { self.old.failed ≡ true → IsErr result }
         ensures keeps_its_members { self.new.members ≡ self.old.members }
+        ensures stays_whole { OnOk result (Whole self.old → Whole self.new) }
     {
         if self.failed {
             return Err(NoMemory);
@@ -95,28 +99,30 @@ impl Ballot {
         }
     }
 
-    /// The member at seat `who` is lost.
+    /// The member at seat `who`, below the number of members, is lost.
     pub fn on_lost(&mut self, who: u8)
         requires { who < self.old.members }
         ensures was_told { self.new ≡ told_seat who self.old }
         ensures was_told_in_the_world { InWorld self.old self.new (λ name. told (name who)) }
         ensures keeps_its_members { self.new.members ≡ self.old.members }
+        ensures stays_whole { Whole self.old → Whole self.new }
     {
         self.heard[usize::from(who)].lost = true;
     }
 
-    /// The member at seat `who` left.
+    /// The member at seat `who`, below the number of members, left.
     pub fn on_left(&mut self, who: u8)
         requires { who < self.old.members }
         ensures has_heard { self.new ≡ hears_seat who Leaving self.old }
         ensures has_heard_in_the_world { InWorld self.old self.new (λ name. after (name who) Leaving) }
         ensures keeps_its_members { self.new.members ≡ self.old.members }
+        ensures stays_whole { Whole self.old → Whole self.new }
     {
         self.heard[usize::from(who)].left = true;
     }
 
     /// Takes the one turn that is enabled, and says what it did. After `Decided` each poll answers `Decided` with the same
-    /// slots. After `NoMemory` every later call that can answer it does.
+    /// slots. Fails only without memory, and then every later call that can fail does.
     pub fn poll(&mut self) -> Result<Poll, NoMemory>
         ensures takes_its_turn { OnOk result (self.new ≡ polled self.old) }
         ensures says_its_turn { IfOk result (λ answer. answer ≡ (seat_turn self.old).poll) }
@@ -130,6 +136,8 @@ impl Ballot {
         ensures no_memory { OnErr result (self.new ≡ spent self.old) }
         ensures stays_failed { self.old.failed ≡ true → IsErr result }
         ensures keeps_its_members { self.new.members ≡ self.old.members }
+        ensures stays_whole { OnOk result (Whole self.old → Whole self.new) }
+        ensures gives_one_slot_each { IfOk result (λ answer. Whole self.old → WholePoll self.old.members answer) }
     {
         if self.failed {
             return Err(NoMemory);

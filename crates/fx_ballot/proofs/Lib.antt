@@ -10,3 +10,4 @@ pub mod Strangers
 pub mod Runs
 pub mod Readings
 pub mod Happenings
+pub mod Wholes

@@ -1,5 +1,5 @@
 -- A member as it keeps itself: what it knows of each seat, in a list; and how that reads by process.
-use Rattle.std.specs.Prelude.{◌≡◌, ◌≢◌, ◌<◌, ℕ, zero, suc, Bool, true, false, if◌then◌else◌, ◌==◌, List, replicate, slice_index_or, slice_set, Some, None}
+use Rattle.std.specs.Prelude.{◌≡◌, length, Option, ◌≢◌, ◌<◌, ℕ, zero, suc, Bool, true, false, if◌then◌else◌, ◌==◌, List, replicate, slice_index_or, slice_set, Some, None}
 use Rattle.fx_link.specs.declared.slot.Slot.{Slot}
 use Rattle.fx_ballot.specs.declared.heard.Heard.{Heard}
 use Rattle.fx_ballot.specs.declared.poll.Poll.{Poll}
@@ -83,3 +83,28 @@ Awaits n i seen (Decided held) = ⊥
 -- under any names of the seats that are apart, the first becomes the second as the member that it is becomes by the change
 abbrev pub InWorld : Seated → Seated → ((ℕ → ℕ) → Member → Member) → Type 0
 InWorld old new change = (name : ℕ → ℕ) → Apart old.members name → as_member name new ≡ change name (as_member name old)
+
+-- an estimate that was heard has one slot for each of n members
+abbrev pub WholeEstimate : ℕ → Option (List Slot) → Type 0
+WholeEstimate n None = Unit {0}
+WholeEstimate n (Some slots) = length slots ≡ n
+
+-- the list that a phase holds has one slot for each of n members
+abbrev pub WholePhase : ℕ → Phase → Type 0
+WholePhase n Outside = Unit {0}
+WholePhase n Voting = Unit {0}
+WholePhase n (Round r held) = length held ≡ n
+WholePhase n (Decided held) = length held ≡ n
+
+-- the list that an answer gives has one slot for each of n members
+abbrev pub WholePoll : ℕ → Poll → Type 0
+WholePoll n poll.NotYet = Unit {0}
+WholePoll n poll.Moved = Unit {0}
+WholePoll n (poll.SendEstimate slots) = length slots ≡ n
+WholePoll n (poll.Decided slots) = length slots ≡ n
+
+-- a member's own list, and each estimate that it heard, has one slot for each member
+pub record Whole (b : Seated) : Type 0 where
+  pub seats : length b.heard ≡ b.members
+  pub phase : WholePhase b.members b.phase
+  pub heard : (k : ℕ) → WholeEstimate b.members (at_seat b.heard k).estimate
