@@ -1,0 +1,9 @@
+use Rattle.fx_ballot.specs.World.{plain}
+use Rattle.fx_ballot.proofs.Runs as laws
+use Rattle.fx_agree.proofs.laws.still_open.Goals as goal
+
+pub returns : goal.returns
+returns c = record {
+  under_names = λ n name moves apart. laws.still_open n name moves apart;
+  of_plain_members = λ n moves. laws.still_open n plain moves (λ i j a b e. e);
+}

@@ -1,0 +1,286 @@
+ghost use Rattle.std.specs.Prelude.{◌≡◌, ◌≢◌, ◌<◌, ◌≤◌, ◌↔◌, ℕ, List, replicate, true, length, IfOk, OnOk, OnErr, IsErr};
+ghost use Rattle.fx_ballot.specs.Turn.{Vote, Estimate, Leaving, Voting, Round, Decided, slot_of, slots_of, unheard};
+ghost use Rattle.fx_ballot.specs.World.{Apart, entered, fresh, after, told, acted, turn_of};
+ghost use Rattle.fx_link.specs.declared.slot.Slot.{Slot};
+ghost use Rattle.fx_agree.specs.Stages.{IsRound};
+ghost use Rattle.fx_ballot.specs.Seats.{at_seat, seated, hears_seat, told_seat, seat_turn, polled, spent, as_member, InWorld, Awaits, Whole, WholePoll};
+
+use crate::stage::Stage;
+use fx_ballot::{Heard, Poll};
+use fx_base::NoMemory;
+use fx_link::{Slot, Slots};
+use std::alloc::Global;
+use std::marker::Model;
+
+/// One member's part in a ballot: its vote, what it heard, and how far it has come.
+#[derive(Debug, Drop)]
+pub struct Ballot {
+    members: u8,
+    me: u8,
+    stage: Stage,
+    heard: Vec<Heard>,
+    failed: bool,
+}
+
+impl Model for Ballot {
+    ghost use Rattle.std.specs.Prelude.{◌≡◌, ◌<◌, ◌≤◌, length};
+    ghost use Rattle.fx_ballot.specs.Seats.{Seated};
+    ghost use Rattle.fx_agree.specs.Stages.{phase_of};
+
+    ghost Value = { Seated };
+
+    ghost view = { λ b. record { members = b.members; me = b.me; phase = phase_of b.stage; heard = b.heard.items; failed = b.failed } };
+
+    ghost invariant = { λ b. (length b.heard.items ≡ b.members) × (b.me < b.members) × (b.members ≤ 32) };
+}
+
+impl Ballot {
+    /// The ballot of the member at seat `me`, below `members`, of 1 to 32 members, that votes so. Fails only without memory.
+    pub fn new(alloc: Global, members: u8, me: u8, vote: Slot) -> Result<Ballot, NoMemory>
+        requires few { members ≤ 32 }
+        requires member { me < members }
+        ensures gathers_votes { IfOk result (λ ballot. ballot ≡ seated members me vote) }
+        ensures has_one_slot_each { IfOk result (λ ballot. Whole ballot) }
+        ensures has_entered { IfOk result (λ ballot. (name : ℕ → ℕ) → Apart members name → as_member name ballot ≡ entered (name me) vote fresh) }
+    {
+        let mut heard = nobody_heard(alloc, members)?;
+        heard[usize::from(me)].vote = Some(vote);
+        Ok(Ballot {
+            members,
+            me,
+            stage: Stage::Voting,
+            heard,
+            failed: false,
+        })
+    }
+
+    /// The vote of the member at seat `from`, below the number of members, came. A second one changes nothing.
+    pub fn on_vote(&mut self, from: u8, slot: Slot)
+        requires { from < self.old.members }
+        ensures has_heard { self.new ≡ hears_seat from (Vote slot) self.old }
+        ensures has_heard_in_the_world { InWorld self.old self.new (λ name. after (name from) (Vote slot)) }
+        ensures keeps_its_members { self.new.members ≡ self.old.members }
+        ensures stays_whole { Whole self.old → Whole self.new }
+    {
+        let heard = &mut self.heard[usize::from(from)];
+        if heard.vote.is_none() {
+            heard.vote = Some(slot);
+        }
+    }
+
+    /// The estimate of round `round`, below the number of members, came, with one slot for each member. A second one of this
+    /// round changes nothing. Fails only without memory, and then every later call that can fail does.
+    pub fn on_estimate(&mut self, round: u8, slots: &Slots) -> Result<(), NoMemory>
+        requires below { round < self.old.members }
+        requires whole { length slots.now ≡ self.old.members }
+        ensures has_heard { OnOk result (self.new ≡ hears_seat round (Estimate round slots.now) self.old) }
+        ensures has_heard_in_the_world { OnOk result (InWorld self.old self.new (λ name. after (name round) (Estimate round slots.now))) }
+        ensures no_memory { OnErr result (self.new ≡ spent self.old) }
+        ensures stays_failed { self.old.failed ≡ true → IsErr result }
+        ensures keeps_its_members { self.new.members ≡ self.old.members }
+        ensures stays_whole { OnOk result (Whole self.old → Whole self.new) }
+    {
+        if self.failed {
+            return Err(NoMemory);
+        }
+        let heard = &mut self.heard[usize::from(round)];
+        if heard.estimate.is_some() {
+            return Ok(());
+        }
+        match slots.copy() {
+            Ok(copy) => {
+                heard.estimate = Some(copy);
+                Ok(())
+            }
+            Err(NoMemory) => {
+                self.failed = true;
+                Err(NoMemory)
+            }
+        }
+    }
+
+    /// The member at seat `who`, below the number of members, is lost.
+    pub fn on_lost(&mut self, who: u8)
+        requires { who < self.old.members }
+        ensures was_told { self.new ≡ told_seat who self.old }
+        ensures was_told_in_the_world { InWorld self.old self.new (λ name. told (name who)) }
+        ensures keeps_its_members { self.new.members ≡ self.old.members }
+        ensures stays_whole { Whole self.old → Whole self.new }
+    {
+        self.heard[usize::from(who)].lost = true;
+    }
+
+    /// The member at seat `who`, below the number of members, left.
+    pub fn on_left(&mut self, who: u8)
+        requires { who < self.old.members }
+        ensures has_heard { self.new ≡ hears_seat who Leaving self.old }
+        ensures has_heard_in_the_world { InWorld self.old self.new (λ name. after (name who) Leaving) }
+        ensures keeps_its_members { self.new.members ≡ self.old.members }
+        ensures stays_whole { Whole self.old → Whole self.new }
+    {
+        self.heard[usize::from(who)].left = true;
+    }
+
+    /// Takes the one turn that is enabled, and says what it did. After `Decided` each poll answers `Decided` with the same
+    /// slots. Fails only without memory, and then every later call that can fail does.
+    pub fn poll(&mut self) -> Result<Poll, NoMemory>
+        ensures takes_its_turn { OnOk result (self.new ≡ polled self.old) }
+        ensures says_its_turn { IfOk result (λ answer. answer ≡ (seat_turn self.old).poll) }
+        ensures takes_its_turn_in_the_world { OnOk result (InWorld self.old self.new (λ name. acted self.old.members name self.old.me)) }
+        ensures says_its_turn_in_the_world { IfOk result (λ answer.
+            (name : ℕ → ℕ) → Apart self.old.members name
+            → answer ≡ (turn_of self.old.members name self.old.me (as_member name self.old)).poll) }
+        ensures waits_for_a_message { IfOk result (λ answer. (answer ≡ Poll.NotYet) ↔ Awaits self.old.members self.old.me (at_seat self.old.heard) self.old.phase) }
+        ensures stays_decided { (slots : List Slot) → self.old.phase ≡ Decided slots
+            → OnOk result (self.new ≡ self.old) × IfOk result (λ answer. answer ≡ Poll.Decided slots) }
+        ensures no_memory { OnErr result (self.new ≡ spent self.old) }
+        ensures stays_failed { self.old.failed ≡ true → IsErr result }
+        ensures keeps_its_members { self.new.members ≡ self.old.members }
+        ensures stays_whole { OnOk result (Whole self.old → Whole self.new) }
+        ensures gives_one_slot_each { IfOk result (λ answer. Whole self.old → WholePoll self.old.members answer) }
+    {
+        if self.failed {
+            return Err(NoMemory);
+        }
+        match self.turn() {
+            Ok(answer) => Ok(answer),
+            Err(NoMemory) => {
+                self.failed = true;
+                Err(NoMemory)
+            }
+        }
+    }
+
+    fn turn(&mut self) -> Result<Poll, NoMemory>
+        ensures takes { OnOk result (self.new ≡ polled self.old) }
+        ensures says { IfOk result (λ answer. answer ≡ (seat_turn self.old).poll) }
+        ensures no_memory { OnErr result (self.new ≡ self.old) }
+        ensures keeps_its_members { self.new.members ≡ self.old.members }
+    {
+        match &self.stage {
+            Stage::Voting => self.form(),
+            Stage::Round(number, held) => {
+                let number = *number;
+                if number >= self.members {
+                    let held = held.copy()?;
+                    self.decide(number, held)
+                } else if number == self.me {
+                    let held = held.copy()?;
+                    self.speak(number, held)
+                } else {
+                    self.follow(number)
+                }
+            }
+            Stage::Decided(slots) => Ok(Poll::Decided(slots.copy()?)),
+        }
+    }
+
+    fn form(&mut self) -> Result<Poll, NoMemory>
+        requires { self.old.phase ≡ Voting }
+        ensures takes { OnOk result (self.new ≡ polled self.old) }
+        ensures says { IfOk result (λ answer. answer ≡ (seat_turn self.old).poll) }
+        ensures no_memory { OnErr result (self.new ≡ self.old) }
+        ensures keeps_its_members { self.new.members ≡ self.old.members }
+    {
+        match gathered(*self.heard.allocator(), &self.heard)? {
+            None => Ok(Poll::NotYet),
+            Some(slots) => {
+                self.stage = Stage::Round(0, slots);
+                Ok(Poll::Moved)
+            }
+        }
+    }
+
+    fn speak(&mut self, number: u8, held: Slots) -> Result<Poll, NoMemory>
+        requires here { self.old.phase ≡ Round number held }
+        requires own { number ≡ self.old.me }
+        ensures takes { OnOk result (self.new ≡ polled self.old) }
+        ensures says { IfOk result (λ answer. answer ≡ (seat_turn self.old).poll) }
+        ensures no_memory { OnErr result (self.new ≡ self.old) }
+        ensures keeps_its_members { self.new.members ≡ self.old.members }
+    {
+        let own = held.copy()?;
+        let said = held.copy()?;
+        self.heard[usize::from(self.me)].estimate = Some(own);
+        self.stage = Stage::Round(number + 1, held);
+        Ok(Poll::SendEstimate(said))
+    }
+
+    fn decide(&mut self, number: u8, held: Slots) -> Result<Poll, NoMemory>
+        requires here { self.old.phase ≡ Round number held }
+        requires all_passed { self.old.members ≤ number }
+        ensures takes { OnOk result (self.new ≡ polled self.old) }
+        ensures says { IfOk result (λ answer. answer ≡ (seat_turn self.old).poll) }
+        ensures no_memory { OnErr result (self.new ≡ self.old) }
+        ensures keeps_its_members { self.new.members ≡ self.old.members }
+    {
+        let answer = held.copy()?;
+        self.stage = Stage::Decided(held);
+        Ok(Poll::Decided(answer))
+    }
+
+    fn follow(&mut self, number: u8) -> Result<Poll, NoMemory>
+        requires here { IsRound number self.old.phase }
+        requires below { number < self.old.members }
+        requires other { number ≢ self.old.me }
+        ensures takes { OnOk result (self.new ≡ polled self.old) }
+        ensures says { IfOk result (λ answer. answer ≡ (seat_turn self.old).poll) }
+        ensures no_memory { OnErr result (self.new ≡ self.old) }
+        ensures keeps_its_members { self.new.members ≡ self.old.members }
+    {
+        let heard = &self.heard[usize::from(number)];
+        match &heard.estimate {
+            Some(slots) => {
+                self.stage = Stage::Round(number + 1, slots.copy()?);
+                Ok(Poll::Moved)
+            }
+            None if heard.lost || heard.left => {
+                self.stage.pass();
+                Ok(Poll::Moved)
+            }
+            None => Ok(Poll::NotYet),
+        }
+    }
+}
+
+/// That nothing was heard of any of the members.
+fn nobody_heard(alloc: Global, members: u8) -> Result<Vec<Heard>, NoMemory>
+    ensures { IfOk result (λ heard. heard.items ≡ replicate members unheard) }
+{
+    let mut heard = Vec::new(alloc);
+    for _seat in 0..members {
+        heard.push(Heard {
+            vote: None,
+            estimate: None,
+            lost: false,
+            left: false,
+        })?;
+    }
+    Ok(heard)
+}
+
+/// The slot of a member: its vote, else `Lost`, else `Left`; `None` while it is not known.
+fn slot_known(heard: &Heard) -> Option<Slot>
+    ensures { result ≡ slot_of heard.now.vote heard.now.lost heard.now.left }
+{
+    match heard.vote {
+        Some(slot) => Some(slot),
+        None if heard.lost => Some(Slot::Lost),
+        None if heard.left => Some(Slot::Left),
+        None => None,
+    }
+}
+
+/// The slots of all members, where each is known.
+fn gathered(alloc: Global, heard: &[Heard]) -> Result<Option<Slots>, NoMemory>
+    ensures { IfOk result (λ slots. slots ≡ slots_of (at_seat heard.now) (length heard.now)) }
+{
+    let mut slots = Slots::new(alloc);
+    for known in heard {
+        match slot_known(known) {
+            Some(slot) => slots.push(slot)?,
+            None => return Ok(None),
+        }
+    }
+    Ok(Some(slots))
+}

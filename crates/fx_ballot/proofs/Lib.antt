@@ -1,0 +1,13 @@
+pub mod Lists
+pub mod Grows
+pub mod Messages
+pub mod Rounds
+pub mod Origins
+pub mod Trails
+pub mod Turns
+pub mod Face
+pub mod Strangers
+pub mod Runs
+pub mod Readings
+pub mod Happenings
+pub mod Wholes
