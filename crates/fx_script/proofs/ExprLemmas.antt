@@ -78,40 +78,49 @@ number_meant (negsuc n) fits =
 meant_is_not : (bytes : List ℕ) (c : ℕ) (cs : List ℕ) → is_meant_as_number bytes ≡ true → is_digit c ≡ false → eqb c 45 ≡ false → bytes_eq bytes (c ∷ cs) ≡ false
 meant_is_not [] c cs meant digit minus = absurd cc
 meant_is_not (b ∷ bs) c cs meant digit minus = elim (cases_Bool (eqb b c)) [
-    | inl t ↦
-        let same : b ≡ c = eqb-true b c t in
-        let no : (false || (false && ltb 0 (length bs))) ≡ true = rw (same, digit, minus) at meant in
-        absurd cc
-    | inr f ↦ and_left (eqb b c) (bytes_eq bs cs) f
-  ]
+  | inl t ↦
+      let same : b ≡ c = eqb-true b c t in
+      let no : (false || (false && ltb 0 (length bs))) ≡ true = rw (same, digit, minus) at meant in
+      absurd cc
+  | inr f ↦ and_left (eqb b c) (bytes_eq bs cs) f
+]
 
 -- nor is it a lone `-`
 meant_is_not_minus : (bytes : List ℕ) → is_meant_as_number bytes ≡ true → bytes_eq bytes (codes "-") ≡ false
 meant_is_not_minus [] meant = absurd cc
 meant_is_not_minus (b ∷ []) meant = elim (cases_Bool (eqb b 45)) [
-    | inl t ↦ let same : b ≡ 45 = eqb-true b 45 t in let no : false ≡ true = rw same at meant in absurd cc
-    | inr f ↦ and_left (eqb b 45) true f
-  ]
+  | inl t ↦ let same : b ≡ 45 = eqb-true b 45 t in let no : false ≡ true = rw same at meant in absurd cc
+  | inr f ↦ and_left (eqb b 45) true f
+]
 meant_is_not_minus (b ∷ c ∷ bs) meant = elim (cases_Bool (eqb b 45)) [ inl t ↦ rw t refl | inr f ↦ rw f refl ]
 
 number_token : (c : ℕ) (n : ℤ) → fits_64 n ≡ true → token_in (record { column = c; bytes = signed_decimal n }) ≡ Ok (token.Leaf (expr.Number n))
 number_token c n fits =
     let meant = number_meant n fits in
     let not = λ (d : ℕ) (ds : List ℕ) (digit : is_digit d ≡ false) (minus : eqb d 45 ≡ false). meant_is_not (signed_decimal n) d ds meant digit minus in
-    rw (not 43 [] refl refl, meant_is_not_minus (signed_decimal n) meant, not 42 [] refl refl, not 105 (codes "ndex") refl refl, not 114 (codes "ank") refl refl,
-        not 115 (codes "ize") refl refl, not 108 (codes "atest") refl refl, meant, number_again n fits) refl
+    rw (
+      not 43 [] refl refl,
+      meant_is_not_minus (signed_decimal n) meant,
+      not 42 [] refl refl,
+      not 105 (codes "ndex") refl refl,
+      not 114 (codes "ank") refl refl,
+      not 115 (codes "ize") refl refl,
+      not 108 (codes "atest") refl refl,
+      meant,
+      number_again n fits,
+    ) refl
 
 -- a name begins with a letter, so it is no sign and no number
 letter_is_not : (bytes : List ℕ) (c : ℕ) (cs : List ℕ) → begins_with_letter bytes ≡ true → is_letter c ≡ false → bytes_eq bytes (c ∷ cs) ≡ false
 letter_is_not [] c cs letter other = absurd cc
 letter_is_not (b ∷ bs) c cs letter other = elim (cases_Bool (eqb b c)) [
-    | inl t ↦
-        let same : b ≡ c = eqb-true b c t in
-        let first = (and_parts (is_letter b) (list_all is_letter_or_digit bs) letter).0 in
-        let no' : false ≡ true = sym other ∙ ap is_letter (sym same) ∙ first in
-        absurd cc
-    | inr f ↦ and_left (eqb b c) (bytes_eq bs cs) f
-  ]
+  | inl t ↦
+      let same : b ≡ c = eqb-true b c t in
+      let first = (and_parts (is_letter b) (list_all is_letter_or_digit bs) letter).0 in
+      let no' : false ≡ true = sym other ∙ ap is_letter (sym same) ∙ first in
+      absurd cc
+  | inr f ↦ and_left (eqb b c) (bytes_eq bs cs) f
+]
 
 letter_not_meant : (bytes : List ℕ) → begins_with_letter bytes ≡ true → is_meant_as_number bytes ≡ false
 letter_not_meant [] letter = absurd cc
@@ -164,7 +173,7 @@ operand_found w t e =
           let a = bind_ok (number_in_word w) (λ n. Ok (token.Leaf (expr.Number n))) t meant.1 in
           let number = number_word_found w a.0 a.1 in
           subst (IsToken w) (ok_is (token.Leaf (expr.Number a.0)) t a.2)
-              (record { words = ap (λ (b : List ℕ). b ∷ []) number.1 ∙ sym (number_words a.0); fits = writing (Expr-F.Number a.0) (expr.Number a.0) (expr.rolls-Number a.0) ∙ number.0 })
+          (record { words = ap (λ (b : List ℕ). b ∷ []) number.1 ∙ sym (number_words a.0); fits = writing (Expr-F.Number a.0) (expr.Number a.0) (expr.rolls-Number a.0) ∙ number.0 })
       | inr other ↦ elim (chosen (is_name w.bytes) (Ok (token.Leaf (expr.Name w.bytes))) (Err (misfit w)) (Ok t) other.1) [
         | inl name ↦ subst (IsToken w) (ok_is (token.Leaf (expr.Name w.bytes)) t name.1)
             (record { words = sym (spelling (Expr-F.Name w.bytes) (expr.Name w.bytes) (expr.rolls-Name w.bytes)); fits = writing (Expr-F.Name w.bytes) (expr.Name w.bytes) (expr.rolls-Name w.bytes) ∙ name.0 })
@@ -190,7 +199,7 @@ leaf_token : (w : Word) (t : Token) (x : Expr-F Expr) (e : Expr) (text : List �
     → writable_level (map-Expr Expr Bool is_writable_expr x) ≡ true → bytes_eq w.bytes text ≡ true → leaf e ≡ token_read t → IsToken w t
 leaf_token w t x e text is words fits here got =
     subst (IsToken w) (ok_is (token.Leaf e) t got)
-        (record { words = one_word w text here ∙ sym words ∙ sym (spelling x e is); fits = writing x e is ∙ fits })
+    (record { words = one_word w text here ∙ sym words ∙ sym (spelling x e is); fits = writing x e is ∙ fits })
 
 -- a word that is no sign
 word_found : (w : Word) (t : Token) → word_in w ≡ Ok t → IsToken w t
@@ -378,12 +387,11 @@ joined_again : (s : Sign) (a b : Expr) → IsReadAgain a → IsReadAgain b → I
 joined_again s a b first second ps left rest fits spelled =
     let parts = and_parts (is_writable_expr a) (is_writable_expr b) (sym (joined_writable s a b) ∙ fits) in
     let words : texts left ≡ sign_text s ∷ (expr_words a ++ (expr_words b ++ rest)) =
-        spelled ∙ ap (λ (l : List (List ℕ)). l ++ rest) (joined_words s a b) ∙ ap (λ (l : List (List ℕ)). sign_text s ∷ l) (append_assoc (expr_words a) (expr_words b) rest) in
+    spelled ∙ ap (λ (l : List (List ℕ)). l ++ rest) (joined_words s a b) ∙ ap (λ (l : List (List ℕ)). sign_text s ∷ l) (append_assoc (expr_words a) (expr_words b) rest) in
     let start = sign_again_of s ps left.words left.past (expr_words a ++ (expr_words b ++ rest)) words in
     let one = first (pending.First s ∷ ps) start.0 (expr_words b ++ rest) parts.0 start.2 in
     let two = second (pending.Second s a ∷ ps) one.next rest parts.1 one.others in
     record { next = two.next; read = start.1 ∙ one.read ∙ two.read; others = two.others }
-
 
 again_level : (y : Expr-F ((e : Expr) × IsReadAgain e)) → IsReadAgain (roll-Expr (map-Expr ((e : Expr) × IsReadAgain e) Expr (λ t. t.0) y))
 again_level (Expr-F.Number n) = subst IsReadAgain (sym (expr.rolls-Number n)) (λ ps left rest fits spelled.

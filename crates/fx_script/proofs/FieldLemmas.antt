@@ -236,7 +236,7 @@ pair_found left x e =
     let first = number_found left a.0 a.1 in
     let last = number_found a.0.1 b.0 b.1 in
     subst (λ (y : (ℤ × ℤ) × Left). (pair_fits y.0 ≡ true) × (texts left ≡ signed_decimal y.0.0 ∷ signed_decimal y.0.1 ∷ texts y.1)) (ok_is ((a.0.0, b.0.0), b.0.1) x b.2)
-        (and_from (fits_64 a.0.0) (fits_64 b.0.0) first.0 last.0, first.1 ∙ ap (λ (l : List (List ℕ)). signed_decimal a.0.0 ∷ l) last.1)
+    (and_from (fits_64 a.0.0) (fits_64 b.0.0) first.0 last.0, first.1 ∙ ap (λ (l : List (List ℕ)). signed_decimal a.0.0 ∷ l) last.1)
 
 pub pair_again : (left : Left) (p : ℤ × ℤ) (rest : List (List ℕ)) → pair_fits p ≡ true → texts left ≡ signed_decimal p.0 ∷ signed_decimal p.1 ∷ rest → Behind (pair_at left) p rest
 pair_again left p rest fits e =
@@ -263,7 +263,7 @@ pub pairs_found : (room : ℕ) (before : List (ℤ × ℤ)) (left : Left) (x : L
 unfolding pairs_from
 pairs_found zero before left x e =
     subst (λ (y : List (ℤ × ℤ) × Left). ReadsPairs 0 before left y) (ok_is (before, left) x e)
-        (record { fit = λ all. all; least = omega arith; most = omega arith; words = refl })
+    (record { fit = λ all. all; least = omega arith; most = omega arith; words = refl })
 pairs_found (suc room) before left x e =
     elim (chosen (eqb (length left.words) 0) (Ok (before, left)) (pair_at left >>= λ pair. pairs_from room (before ++ pair.0 ∷ []) pair.1) (Ok x) e) [
       | inl t ↦ subst (λ (y : List (ℤ × ℤ) × Left). ReadsPairs (suc room) before left y) (ok_is (before, left) x t.1)

@@ -83,39 +83,39 @@ part_found part_word.Fenix left x e =
     let a = bind_ok (fixed_at (codes "1") left) (λ x0. Ok (part.Fenix, x0.1)) x e in
     let a1 = fixed_found left (codes "1") a.0 a.1 in
     subst (PartRead part_word.Fenix left) (ok_is (part.Fenix, a.0.1) x a.2)
-        (record { word_is = refl; words = a1; fits = refl })
+    (record { word_is = refl; words = a1; fits = refl })
 part_found part_word.Ranks left x e =
     let a = bind_ok (number_at left) (λ x0. Ok (part.Ranks x0.0, x0.1)) x e in
     let a1 = number_found left a.0 a.1 in
     subst (PartRead part_word.Ranks left) (ok_is (part.Ranks a.0.0, a.0.1) x a.2)
-        (record { word_is = refl; words = a1.1; fits = a1.0 })
+    (record { word_is = refl; words = a1.1; fits = a1.0 })
 part_found part_word.Spares left x e =
     let a = bind_ok (number_at left) (λ x0. Ok (part.Spares x0.0, x0.1)) x e in
     let a1 = number_found left a.0 a.1 in
     subst (PartRead part_word.Spares left) (ok_is (part.Spares a.0.0, a.0.1) x a.2)
-        (record { word_is = refl; words = a1.1; fits = a1.0 })
+    (record { word_is = refl; words = a1.1; fits = a1.0 })
 part_found part_word.Separation left x e =
     let a = bind_ok (number_at left) (λ x0. Ok (part.Separation x0.0, x0.1)) x e in
     let a1 = number_found left a.0 a.1 in
     subst (PartRead part_word.Separation left) (ok_is (part.Separation a.0.0, a.0.1) x a.2)
-        (record { word_is = refl; words = a1.1; fits = a1.0 })
+    (record { word_is = refl; words = a1.1; fits = a1.0 })
 part_found part_word.Array left x e =
     let a = bind_ok (name_at left) (λ x0. number_at x0.1 >>= λ x1. Ok (part.Array x0.0 x1.0, x1.1)) x e in
     let a1 = name_found left a.0 a.1 in
     let b = bind_ok (number_at a.0.1) (λ x1. Ok (part.Array a.0.0 x1.0, x1.1)) x a.2 in
     let b1 = number_found a.0.1 b.0 b.1 in
     subst (PartRead part_word.Array left) (ok_is (part.Array a.0.0 b.0.0, b.0.1) x b.2)
-        (record { word_is = refl; words = a1.1 ∙ ap (λ (l : List (List ℕ)). a.0.0 ∷ l) (b1.1); fits = and_from (is_name a.0.0) (fits_64 b.0.0) (a1.0) b1.0 })
+    (record { word_is = refl; words = a1.1 ∙ ap (λ (l : List (List ℕ)). a.0.0 ∷ l) (b1.1); fits = and_from (is_name a.0.0) (fits_64 b.0.0) (a1.0) b1.0 })
 part_found part_word.Counter left x e =
     let a = bind_ok (name_at left) (λ x0. Ok (part.Counter x0.0, x0.1)) x e in
     let a1 = name_found left a.0 a.1 in
     subst (PartRead part_word.Counter left) (ok_is (part.Counter a.0.0, a.0.1) x a.2)
-        (record { word_is = refl; words = a1.1; fits = a1.0 })
+    (record { word_is = refl; words = a1.1; fits = a1.0 })
 part_found part_word.Callback left x e =
     let a = bind_ok (name_at left) (λ x0. Ok (part.Callback x0.0, x0.1)) x e in
     let a1 = name_found left a.0 a.1 in
     subst (PartRead part_word.Callback left) (ok_is (part.Callback a.0.0, a.0.1) x a.2)
-        (record { word_is = refl; words = a1.1; fits = a1.0 })
+    (record { word_is = refl; words = a1.1; fits = a1.0 })
 part_found part_word.EndCallback left x e =
     subst (PartRead part_word.EndCallback left) (ok_is (part.EndCallback, left) x e) (record { word_is = refl; words = refl; fits = refl })
 part_found part_word.Begin left x e =
@@ -195,7 +195,7 @@ edge_found edge_word.When left x e =
     let a = bind_ok (role_at left) (λ x0. Ok (edge.When x0.0, x0.1)) x e in
     let a1 = role_found left a.0 a.1 in
     subst (EdgeRead edge_word.When left) (ok_is (edge.When a.0.0, a.0.1) x a.2)
-        (record { word_is = refl; words = a1; fits = refl })
+    (record { word_is = refl; words = a1; fits = refl })
 edge_found edge_word.EndWhen left x e =
     subst (EdgeRead edge_word.EndWhen left) (ok_is (edge.EndWhen, left) x e) (record { word_is = refl; words = refl; fits = refl })
 edge_found edge_word.If left x e =
@@ -206,7 +206,7 @@ edge_found edge_word.If left x e =
     let d = bind_ok (expr_at b.0.1) (λ x2. Ok (edge.If a.0.0 b.0.0 x2.0, x2.1)) x b.2 in
     let d1 = expr_found b.0.1 d.0 d.1 in
     subst (EdgeRead edge_word.If left) (ok_is (edge.If a.0.0 b.0.0 d.0.0, d.0.1) x d.2)
-        (record { word_is = refl; words = a1 ∙ ap (λ (l : List (List ℕ)). test_text a.0.0 ∷ l) (b1.1 ∙ ap (λ (l : List (List ℕ)). expr_words b.0.0 ++ l) (d1.1) ∙ sym (append_assoc (expr_words b.0.0) (expr_words d.0.0) (texts d.0.1))); fits = and_from (is_writable_expr b.0.0) (is_writable_expr d.0.0) (b1.0) d1.0 })
+    (record { word_is = refl; words = a1 ∙ ap (λ (l : List (List ℕ)). test_text a.0.0 ∷ l) (b1.1 ∙ ap (λ (l : List (List ℕ)). expr_words b.0.0 ++ l) (d1.1) ∙ sym (append_assoc (expr_words b.0.0) (expr_words d.0.0) (texts d.0.1))); fits = and_from (is_writable_expr b.0.0) (is_writable_expr d.0.0) (b1.0) d1.0 })
 edge_found edge_word.Else left x e =
     subst (EdgeRead edge_word.Else left) (ok_is (edge.Else, left) x e) (record { word_is = refl; words = refl; fits = refl })
 edge_found edge_word.EndIf left x e =
@@ -219,7 +219,7 @@ edge_found edge_word.For left x e =
     let d = bind_ok (number_at b.0.1) (λ x2. Ok (edge.For a.0.0 b.0.0 x2.0, x2.1)) x b.2 in
     let d1 = number_found b.0.1 d.0 d.1 in
     subst (EdgeRead edge_word.For left) (ok_is (edge.For a.0.0 b.0.0 d.0.0, d.0.1) x d.2)
-        (record { word_is = refl; words = a1.1 ∙ ap (λ (l : List (List ℕ)). a.0.0 ∷ l) (b1.1 ∙ ap (λ (l : List (List ℕ)). expr_words b.0.0 ++ l) (d1.1) ∙ sym (append_assoc (expr_words b.0.0) (signed_decimal d.0.0 ∷ []) (texts d.0.1))); fits = and_from (is_name a.0.0 && is_writable_expr b.0.0) (fits_64 d.0.0) (and_from (is_name a.0.0) (is_writable_expr b.0.0) (a1.0) b1.0) d1.0 })
+    (record { word_is = refl; words = a1.1 ∙ ap (λ (l : List (List ℕ)). a.0.0 ∷ l) (b1.1 ∙ ap (λ (l : List (List ℕ)). expr_words b.0.0 ++ l) (d1.1) ∙ sym (append_assoc (expr_words b.0.0) (signed_decimal d.0.0 ∷ []) (texts d.0.1))); fits = and_from (is_name a.0.0 && is_writable_expr b.0.0) (fits_64 d.0.0) (and_from (is_name a.0.0) (is_writable_expr b.0.0) (a1.0) b1.0) d1.0 })
 edge_found edge_word.EndFor left x e =
     subst (EdgeRead edge_word.EndFor left) (ok_is (edge.EndFor, left) x e) (record { word_is = refl; words = refl; fits = refl })
 
@@ -272,36 +272,36 @@ event_found event_word.Step left x e =
     let a = bind_ok (number_at left) (λ x0. Ok (event.Step x0.0, x0.1)) x e in
     let a1 = number_found left a.0 a.1 in
     subst (EventRead event_word.Step left) (ok_is (event.Step a.0.0, a.0.1) x a.2)
-        (record { word_is = refl; words = a1.1; fits = a1.0 })
+    (record { word_is = refl; words = a1.1; fits = a1.0 })
 event_found event_word.Rest left x e =
     let a = bind_ok (number_at left) (λ x0. Ok (event.Rest x0.0, x0.1)) x e in
     let a1 = number_found left a.0 a.1 in
     subst (EventRead event_word.Rest left) (ok_is (event.Rest a.0.0, a.0.1) x a.2)
-        (record { word_is = refl; words = a1.1; fits = a1.0 })
+    (record { word_is = refl; words = a1.1; fits = a1.0 })
 event_found event_word.Deliver left x e =
     let a = bind_ok (number_at left) (λ x0. number_at x0.1 >>= λ x1. Ok (event.Deliver x0.0 x1.0, x1.1)) x e in
     let a1 = number_found left a.0 a.1 in
     let b = bind_ok (number_at a.0.1) (λ x1. Ok (event.Deliver a.0.0 x1.0, x1.1)) x a.2 in
     let b1 = number_found a.0.1 b.0 b.1 in
     subst (EventRead event_word.Deliver left) (ok_is (event.Deliver a.0.0 b.0.0, b.0.1) x b.2)
-        (record { word_is = refl; words = a1.1 ∙ ap (λ (l : List (List ℕ)). signed_decimal a.0.0 ∷ l) (b1.1); fits = and_from (fits_64 a.0.0) (fits_64 b.0.0) (a1.0) b1.0 })
+    (record { word_is = refl; words = a1.1 ∙ ap (λ (l : List (List ℕ)). signed_decimal a.0.0 ∷ l) (b1.1); fits = and_from (fits_64 a.0.0) (fits_64 b.0.0) (a1.0) b1.0 })
 event_found event_word.Kill left x e =
     let a = bind_ok (number_at left) (λ x0. Ok (event.Kill x0.0, x0.1)) x e in
     let a1 = number_found left a.0 a.1 in
     subst (EventRead event_word.Kill left) (ok_is (event.Kill a.0.0, a.0.1) x a.2)
-        (record { word_is = refl; words = a1.1; fits = a1.0 })
+    (record { word_is = refl; words = a1.1; fits = a1.0 })
 event_found event_word.Notice left x e =
     let a = bind_ok (number_at left) (λ x0. number_at x0.1 >>= λ x1. Ok (event.Notice x0.0 x1.0, x1.1)) x e in
     let a1 = number_found left a.0 a.1 in
     let b = bind_ok (number_at a.0.1) (λ x1. Ok (event.Notice a.0.0 x1.0, x1.1)) x a.2 in
     let b1 = number_found a.0.1 b.0 b.1 in
     subst (EventRead event_word.Notice left) (ok_is (event.Notice a.0.0 b.0.0, b.0.1) x b.2)
-        (record { word_is = refl; words = a1.1 ∙ ap (λ (l : List (List ℕ)). signed_decimal a.0.0 ∷ l) (b1.1); fits = and_from (fits_64 a.0.0) (fits_64 b.0.0) (a1.0) b1.0 })
+    (record { word_is = refl; words = a1.1 ∙ ap (λ (l : List (List ℕ)). signed_decimal a.0.0 ∷ l) (b1.1); fits = and_from (fits_64 a.0.0) (fits_64 b.0.0) (a1.0) b1.0 })
 event_found event_word.Run left x e =
     let a = bind_ok (number_at left) (λ x0. Ok (event.Run x0.0, x0.1)) x e in
     let a1 = number_found left a.0 a.1 in
     subst (EventRead event_word.Run left) (ok_is (event.Run a.0.0, a.0.1) x a.2)
-        (record { word_is = refl; words = a1.1; fits = a1.0 })
+    (record { word_is = refl; words = a1.1; fits = a1.0 })
 
 pub event_again : (p : EventKind) (left : Left) (rest : List (List ℕ)) → event_fits p ≡ true → texts left ≡ event_fields p ++ rest → Behind (event_at (event_word_in p) left) p rest
 event_again (event.Step v0) left rest fits e =

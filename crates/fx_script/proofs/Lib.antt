@@ -6,5 +6,8 @@ pub mod SimpleLemmas
 pub mod HeadLemmas
 pub mod SoFar
 pub mod Adds
+pub mod Found
+pub mod Again
+pub mod Laws
 pub mod ExprSteps
 pub mod PairSteps

@@ -1,6 +1,7 @@
 ghost use Rattle.std.specs.Prelude.{◌≡◌, ◌<◌, ◌-◌, ◌^◌, length, IfOk, Ok};
 ghost use Rattle.fx_script.specs.Answers.{Answers};
 ghost use Rattle.fx_script.specs.Reading.{job_in};
+ghost use Rattle.fx_script.specs.Spelling.{Spells};
 
 use crate::job::Job;
 use crate::reader::read_text;
@@ -13,6 +14,10 @@ use std::alloc::Global;
 /// then too long a line, then a missing line end, then the words from the left.
 pub fn read_job(alloc: Global, text: &[u8]) -> Result<Job, ReadJob>
     requires { length text.now < 2 ^ 32 - 1 }
+    // What is read is spelled so, its spots and all.
+    ensures found { IfOk result (λ job. Spells text.now job) }
+    // What is spelled so is read, unless memory runs out.
+    ensures only { (job : Job) → Spells text.now job → Answers result (Ok job) }
     // Which refusal it is.
     ensures exact { Answers result (job_in text.now) }
 {

@@ -13,4 +13,4 @@ returns-in_err-expr c =
     let p = err_from_is_err_and c.from_residual-in_err-expr.result c.from_residual-in_err-expr.ensures.1 in
     let e = c.in_err-expr.field-0.0 in
     rw (p.1, p.2) (subst (λ (r : Result (Expr × Left) Wrong). Stops e r) c.loop-pending.invariant
-        (expr_stops e c.loop-pending.group c.loop-pending.pending c.loop-pending.self c.due.new.self (word_of c.in_ok-word.word) c.in_ok-word.ensures c.in_err-expr.ensures))
+    (expr_stops e c.loop-pending.group c.loop-pending.pending c.loop-pending.self c.due.new.self (word_of c.in_ok-word.word) c.in_ok-word.ensures c.in_err-expr.ensures))

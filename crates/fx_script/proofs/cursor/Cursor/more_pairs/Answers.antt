@@ -15,7 +15,7 @@ returns-in_err-pair c =
     let p = err_from_is_err_and c.from_residual.result c.from_residual.ensures.1 in
     let e = c.in_err-pair.field-0.0 in
     rw (p.1, p.2) (subst (λ (r : Result (List (ℤ × ℤ) × Left) Wrong). Stops e r) c.loop.invariant
-        (pairs_stop e c.loop.counter c.loop.pairs c.loop.self c.loop-test.true (sym c.is_done.ensures ∙ c.if-is_done.false) c.in_err-pair.ensures))
+    (pairs_stop e c.loop.counter c.loop.pairs c.loop.self c.loop-test.true (sym c.is_done.ensures ∙ c.if-is_done.false) c.in_err-pair.ensures))
 
 pub loop-preserved : goal.loop-preserved
 loop-preserved c = rw (c.in_ok-push.ensures.ok) (sym (pairs_more c.loop.counter c.loop.pairs c.loop.self c.pair.new.self c.in_ok-pair.field-0 c.loop-test.true (sym c.is_done.ensures ∙ c.if-is_done.false) c.in_ok-pair.ensures) ∙ c.loop.invariant)
