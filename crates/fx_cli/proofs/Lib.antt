@@ -1,0 +1,5 @@
+pub mod LegalJournal
+pub mod Written
+pub mod Texts
+pub mod Marks
+pub mod Ending
