@@ -3,3 +3,4 @@ pub mod Written
 pub mod Texts
 pub mod Marks
 pub mod Ending
+pub mod InMemory

@@ -1,5 +1,5 @@
 -- How a call of the program ends.
-use Rattle.std.specs.Prelude.{◌≡◌, ℕ, ◌≤◌, ◌⊎◌, true, List, length, Option, Some, None, Result, Ok, Err}
+use Rattle.std.specs.Prelude.{◌≡◌, ℕ, ◌≤◌, ◌⊎◌, true, List, ◌++◌, length, Option, Some, None, Result, Ok, Err}
 use Rattle.fx_io.specs.Faults.{Rose}
 use Rattle.fx_io.specs.Reading.{Came}
 use Rattle.fx_io.specs.Told.{Loses, IsAtEnd, Gains, GainsFront}
@@ -83,3 +83,12 @@ abbrev pub settled : Result (Unit {0}) Cut → Status → Status
 settled (Ok done) status = status
 settled (Err cut.WriteFault) status = WriteFault
 settled (Err cut.NoMemory) status = NoMemory
+
+-- a call over bytes in memory: what is due was written, with its status, or a front of it where memory ran out
+abbrev pub IsInMemory : Due → List ℕ → Status → Type 0
+IsInMemory due written Done = (Done ≡ due.status) × (written ≡ due.output)
+IsInMemory due written BadWords = (BadWords ≡ due.status) × (written ≡ due.output)
+IsInMemory due written (BadJob refusal spot) = (BadJob refusal spot ≡ due.status) × (written ≡ due.output)
+IsInMemory due written ReadFault = ⊥
+IsInMemory due written WriteFault = ⊥
+IsInMemory due written NoMemory = (rest : List ℕ) × (due.output ≡ written ++ rest)

@@ -5,10 +5,15 @@ mod built;
 mod item;
 pub mod laws;
 mod line;
+mod memory;
 mod put;
 mod run;
 mod status;
 mod top;
 
+pub use memory::fenix_in_memory;
 pub use status::{Refusal, Status, code};
 pub use top::fenix;
+
+#[cfg(test)]
+mod tests;
