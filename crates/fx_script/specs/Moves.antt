@@ -1,43 +1,104 @@
--- How the lines of a job follow each other.
-use Rattle.std.specs.Prelude.{◌≡◌, Bool, true, false, pos, List, [], ◌∷◌, ◌++◌}
+-- What the lines of a job do to its draft, one after another.
+use Rattle.std.specs.Prelude.{◌≡◌, pos, List, [], ◌∷◌, ◌++◌, Some, None}
 use Rattle.fx_base.specs.declared.spot.Spot.{Spot}
+use Rattle.fx_script.specs.declared.draft.Block.{Block}
+use Rattle.fx_script.specs.declared.draft.Block.TheVariants as block
 use Rattle.fx_script.specs.declared.draft.Draft.{Draft}
-use Rattle.fx_script.specs.declared.draft.Stage.{Stage}
 use Rattle.fx_script.specs.declared.draft.Stage.TheVariants as stage
+use Rattle.fx_script.specs.declared.head.EdgeHead.{EdgeHead}
+use Rattle.fx_script.specs.declared.head.EdgeHead.TheVariants as edge
 use Rattle.fx_script.specs.declared.head.Head.{Head}
 use Rattle.fx_script.specs.declared.head.Head.TheVariants as head
+use Rattle.fx_script.specs.declared.head.PartHead.{PartHead}
+use Rattle.fx_script.specs.declared.head.PartHead.TheVariants as part
+use Rattle.fx_script.specs.declared.job.Callback.{Callback}
 use Rattle.fx_script.specs.declared.job.Decl.TheVariants as decl
+use Rattle.fx_script.specs.declared.job.Job.{Job}
+use Rattle.fx_script.specs.declared.job.Stmt.{Stmt}
 use Rattle.fx_script.specs.declared.job.Stmt.TheVariants as stmt
-use Rattle.fx_script.specs.declared.keyword.Keyword.{Keyword}
-use Rattle.fx_script.specs.declared.keyword.Keyword.TheVariants as k
+
+-- the spot of a line that wasn't read yet
+abbrev pub nowhere : Spot
+nowhere = record { line = 0; column = 0 }
 
 -- before the first line
+abbrev pub empty_job : Job
+empty_job = record {
+  ranks = pos 0;
+  spares = pos 0;
+  separation = pos 0;
+  ranks_spot = nowhere;
+  spares_spot = nowhere;
+  separation_spot = nowhere;
+  begin_spot = nowhere;
+  names = [];
+  callbacks = [];
+  body = [];
+  events = [];
+}
+
+abbrev pub no_callback : Callback
+no_callback = record { spot = nowhere; name = []; body = [] }
+
 abbrev pub empty_draft : Draft
-empty_draft = record { stage = stage.Fenix; separation = pos 0; names = []; body = [] }
+empty_draft = record { stage = stage.Fenix; job = empty_job; callback = no_callback; blocks = []; now = [] }
 
--- a line with this keyword may stand next
-abbrev pub may_stand : Stage → Keyword → Bool
-may_stand stage.Fenix k.Fenix = true
-may_stand stage.Ranks k.Ranks = true
-may_stand stage.Spares k.Spares = true
-may_stand stage.Separation k.Separation = true
-may_stand stage.Names k.Array = true
-may_stand stage.Names k.Begin = true
-may_stand stage.Body k.Print = true
-may_stand stage.Body k.End = true
-may_stand stage.Schedule k.Schedule = true
-may_stand stage.Events k.Stop = true
-may_stand stage keyword = false
+-- a line between the parts of a job
+abbrev pub part_moved : Draft → Spot → PartHead → Draft
+part_moved d spot part.Fenix = record d { stage = stage.Ranks }
+part_moved d spot (part.Ranks n) = record d { stage = stage.Spares; job = record d.job { ranks = n; ranks_spot = spot } }
+part_moved d spot (part.Spares n) = record d { stage = stage.Separation; job = record d.job { spares = n; spares_spot = spot } }
+part_moved d spot (part.Separation n) = record d { stage = stage.Names; job = record d.job { separation = n; separation_spot = spot } }
+part_moved d spot (part.Array name len) = record d { job = record d.job { names = d.job.names ++ decl.Array spot name len ∷ [] } }
+part_moved d spot (part.Counter name) = record d { job = record d.job { names = d.job.names ++ decl.Counter spot name ∷ [] } }
+part_moved d spot (part.Callback name) = record d { stage = stage.Callback; callback = record d.callback { spot = spot; name = name } }
+part_moved d spot part.EndCallback = record d {
+  stage = stage.Callbacks;
+  job = record d.job { callbacks = d.job.callbacks ++ record d.callback { body = d.now } ∷ [] };
+  callback = no_callback;
+  now = [];
+}
+part_moved d spot part.Begin = record d { stage = stage.Body; job = record d.job { begin_spot = spot } }
+part_moved d spot part.End = record d { stage = stage.Schedule; job = record d.job { body = d.now }; now = [] }
+part_moved d spot part.Schedule = record d { stage = stage.Events }
+part_moved d spot part.Stop = record d { stage = stage.Stopped }
 
--- the draft with what a line says
+-- a block whose last list is this one, as a statement, and the statements before it
+abbrev pub closed_block : Block → List Stmt → List Stmt × Stmt
+closed_block (block.RoleOnly spot role before) body = (before, stmt.RoleOnly spot role body)
+closed_block (block.Yes spot test left right before) body = (before, stmt.Branch spot test left right body None)
+closed_block (block.No spot test left right chosen before) body = (before, stmt.Branch spot test left right chosen (Some body))
+closed_block (block.Loop spot counter first last before) body = (before, stmt.Loop spot counter first last body)
+
+-- the innermost block is closed
+abbrev pub closed_in : Draft → List Block → Draft
+closed_in d [] = d
+closed_in d (b ∷ blocks) = record d { blocks = blocks; now = (closed_block b d.now).0 ++ (closed_block b d.now).1 ∷ [] }
+
+abbrev pub closed : Draft → Draft
+closed d = closed_in d d.blocks
+
+-- the innermost block, a branch, goes over to its other list
+abbrev pub divided_in : Draft → List Block → Draft
+divided_in d (block.Yes spot test left right before ∷ blocks) = record d { blocks = block.No spot test left right d.now before ∷ blocks; now = [] }
+divided_in d blocks = d
+
+abbrev pub divided : Draft → Draft
+divided d = divided_in d d.blocks
+
+-- a line that opens, divides or closes a block
+abbrev pub edge_moved : Draft → Spot → EdgeHead → Draft
+edge_moved d spot (edge.When role) = record d { blocks = block.RoleOnly spot role d.now ∷ d.blocks; now = [] }
+edge_moved d spot (edge.If test left right) = record d { blocks = block.Yes spot test left right d.now ∷ d.blocks; now = [] }
+edge_moved d spot (edge.For counter first last) = record d { blocks = block.Loop spot counter first last d.now ∷ d.blocks; now = [] }
+edge_moved d spot edge.Else = divided d
+edge_moved d spot edge.EndWhen = closed d
+edge_moved d spot edge.EndIf = closed d
+edge_moved d spot edge.EndFor = closed d
+
+-- a line
 abbrev pub moved : Draft → Spot → Head → Draft
-moved d spot head.Fenix = record d { stage = stage.Ranks }
-moved d spot head.Ranks = record d { stage = stage.Spares }
-moved d spot head.Spares = record d { stage = stage.Separation }
-moved d spot (head.Separation n) = record d { separation = n; stage = stage.Names }
-moved d spot (head.Array name len) = record d { names = d.names ++ decl.Array spot name len ∷ [] }
-moved d spot head.Begin = record d { stage = stage.Body }
-moved d spot (head.Print name) = record d { body = d.body ++ stmt.Print spot name ∷ [] }
-moved d spot head.End = record d { stage = stage.Schedule }
-moved d spot head.Schedule = record d { stage = stage.Events }
-moved d spot head.Stop = record d { stage = stage.Stopped }
+moved d spot (head.Part p) = part_moved d spot p
+moved d spot (head.Edge e) = edge_moved d spot e
+moved d spot (head.Simple s) = record d { now = d.now ++ s ∷ [] }
+moved d spot (head.Event kind) = record d { job = record d.job { events = d.job.events ++ record { spot = spot; kind = kind } ∷ [] } }

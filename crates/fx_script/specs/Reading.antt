@@ -6,6 +6,7 @@ use Rattle.fx_text.specs.declared.check.LineFault.TheVariants as line_fault
 use Rattle.fx_text.specs.Checks.{checked}
 use Rattle.fx_text.specs.Lines.{Line, lines_of}
 use Rattle.fx_text.specs.Words.{Word, words_of}
+use Rattle.fx_script.specs.declared.draft.Block.{Block}
 use Rattle.fx_script.specs.declared.draft.Draft.{Draft}
 use Rattle.fx_script.specs.declared.draft.Stage.{Stage}
 use Rattle.fx_script.specs.declared.draft.Stage.TheVariants as stage
@@ -21,7 +22,8 @@ use Rattle.fx_script.specs.Comments.{is_comment}
 use Rattle.fx_script.specs.Fields.{misfit}
 use Rattle.fx_script.specs.Keywords.{keyword_of}
 use Rattle.fx_script.specs.Heads.{head_at}
-use Rattle.fx_script.specs.Moves.{empty_draft, may_stand, moved}
+use Rattle.fx_script.specs.Moves.{empty_draft, moved}
+use Rattle.fx_script.specs.Stands.{may_stand}
 
 -- a fault and its place
 pub record Refusal : Type 0 where
@@ -54,14 +56,14 @@ abbrev pub sound : Line → Result (Unit {0}) Wrong
 sound line = soundness (checked line.bytes) line.ended (length line.bytes + 1)
 
 -- what a line says whose keyword may stand here; no other first word can
-abbrev pub head_placed : Stage → Option Keyword → Word → Left → Result Head Wrong
-head_placed s None first left = Err (misfit first)
-head_placed s (Some keyword) first left = if may_stand s keyword then head_at keyword left else Err (misfit first)
+abbrev pub head_placed : Stage → List Block → Option Keyword → Spot → Word → Left → Result Head Wrong
+head_placed s blocks None spot first left = Err (misfit first)
+head_placed s blocks (Some keyword) spot first left = if may_stand s blocks keyword then head_at keyword spot left else Err (misfit first)
 
 -- what a line says at this stage; nothing may follow `stop`
-abbrev pub head_in : Stage → Word → Left → Result Head Wrong
-head_in stage.Stopped first left = Err (record { fault = TrailingText; column = first.column })
-head_in s first left = head_placed s (keyword_of first.bytes) first left
+abbrev pub head_in : Stage → List Block → Spot → Word → Left → Result Head Wrong
+head_in stage.Stopped blocks spot first left = Err (record { fault = TrailingText; column = first.column })
+head_in s blocks spot first left = head_placed s blocks (keyword_of first.bytes) spot first left
 
 -- the spot of a line
 abbrev pub spot_of : Met → Spot
@@ -70,7 +72,7 @@ spot_of m = record { line = m.number; column = m.first.column }
 -- the draft behind a line in which this is met
 abbrev pub taken : Draft → Option Met → Result Draft Wrong
 taken d None = Ok d
-taken d (Some m) = head_in d.stage m.first m.left >>= λ head. Ok (moved d (spot_of m) head)
+taken d (Some m) = head_in d.stage d.blocks (spot_of m) m.first m.left >>= λ head. Ok (moved d (spot_of m) head)
 
 -- the draft behind a line
 abbrev pub line_taken : Draft → ℕ → Line → Result Draft Wrong
@@ -100,13 +102,9 @@ run d number (line ∷ lines) = and_then (at_line number (line_taken d number li
 abbrev pub reading : List ℕ → Result Draft Refusal
 reading text = run empty_draft 1 (lines_of text)
 
--- the job of a draft
-abbrev pub job_of : Draft → Job
-job_of d = record { separation = d.separation; names = d.names; body = d.body }
-
 -- the job in a text, or the first refusal
 abbrev pub job_in_draft : Result Draft Refusal → Result Job Refusal
-job_in_draft (Ok d) = Ok (job_of d)
+job_in_draft (Ok d) = Ok d.job
 job_in_draft (Err r) = Err r
 
 abbrev pub job_in : List ℕ → Result Job Refusal

@@ -1,33 +1,121 @@
 ghost use Rattle.std.specs.Prelude.{◌≡◌};
 ghost use Rattle.std.specs.Str.{bytes_eq};
-ghost use Rattle.fx_script.specs.Keywords.{text_of, keyword_of};
+ghost use Rattle.fx_script.specs.Keywords.{part_text, edge_text, simple_text, event_text, text_of, keyword_of};
 
 /// The first word of a line, which says what kind of line it is.
 #[derive(Clone, Copy, Debug, PartialEq, Eq)]
 pub enum Keyword {
+    /// A line between the parts of a job.
+    Part(PartWord),
+    /// A line that opens, divides or closes a block.
+    Edge(EdgeWord),
+    /// A statement without a block.
+    Simple(SimpleWord),
+    /// An event of the schedule.
+    Event(EventWord),
+}
+
+#[derive(Clone, Copy, Debug, PartialEq, Eq)]
+pub enum PartWord {
     Fenix,
     Ranks,
     Spares,
     Separation,
     Array,
+    Counter,
+    Callback,
+    EndCallback,
     Begin,
-    Print,
     End,
     Schedule,
     Stop,
 }
 
-const ALL: [Keyword; 10] = [
-    Keyword::Fenix,
-    Keyword::Ranks,
-    Keyword::Spares,
-    Keyword::Separation,
-    Keyword::Array,
-    Keyword::Begin,
-    Keyword::Print,
-    Keyword::End,
-    Keyword::Schedule,
-    Keyword::Stop,
+#[derive(Clone, Copy, Debug, PartialEq, Eq)]
+pub enum EdgeWord {
+    When,
+    EndWhen,
+    If,
+    Else,
+    EndIf,
+    For,
+    EndFor,
+}
+
+#[derive(Clone, Copy, Debug, PartialEq, Eq)]
+pub enum SimpleWord {
+    Let,
+    Set,
+    Print,
+    Register,
+    Barrier,
+    Sum,
+    Min,
+    Max,
+    Agree,
+    Shift,
+    Group,
+    Member,
+    Store,
+    Commit,
+    CommitBarrier,
+    Restore,
+    Drop,
+}
+
+#[derive(Clone, Copy, Debug, PartialEq, Eq)]
+pub enum EventWord {
+    Step,
+    Rest,
+    Deliver,
+    Kill,
+    Notice,
+    Run,
+}
+
+const ALL: [Keyword; 42] = [
+    Keyword::Simple(SimpleWord::Print),
+    Keyword::Simple(SimpleWord::Let),
+    Keyword::Simple(SimpleWord::Set),
+    Keyword::Simple(SimpleWord::Register),
+    Keyword::Simple(SimpleWord::Barrier),
+    Keyword::Simple(SimpleWord::Sum),
+    Keyword::Simple(SimpleWord::Min),
+    Keyword::Simple(SimpleWord::Max),
+    Keyword::Simple(SimpleWord::Agree),
+    Keyword::Simple(SimpleWord::Shift),
+    Keyword::Simple(SimpleWord::Group),
+    Keyword::Simple(SimpleWord::Member),
+    Keyword::Simple(SimpleWord::Store),
+    Keyword::Simple(SimpleWord::Commit),
+    Keyword::Simple(SimpleWord::CommitBarrier),
+    Keyword::Simple(SimpleWord::Restore),
+    Keyword::Simple(SimpleWord::Drop),
+    Keyword::Edge(EdgeWord::When),
+    Keyword::Edge(EdgeWord::EndWhen),
+    Keyword::Edge(EdgeWord::If),
+    Keyword::Edge(EdgeWord::Else),
+    Keyword::Edge(EdgeWord::EndIf),
+    Keyword::Edge(EdgeWord::For),
+    Keyword::Edge(EdgeWord::EndFor),
+    Keyword::Event(EventWord::Step),
+    Keyword::Event(EventWord::Rest),
+    Keyword::Event(EventWord::Deliver),
+    Keyword::Event(EventWord::Kill),
+    Keyword::Event(EventWord::Notice),
+    Keyword::Event(EventWord::Run),
+    Keyword::Part(PartWord::Fenix),
+    Keyword::Part(PartWord::Ranks),
+    Keyword::Part(PartWord::Spares),
+    Keyword::Part(PartWord::Separation),
+    Keyword::Part(PartWord::Array),
+    Keyword::Part(PartWord::Counter),
+    Keyword::Part(PartWord::Callback),
+    Keyword::Part(PartWord::EndCallback),
+    Keyword::Part(PartWord::Begin),
+    Keyword::Part(PartWord::End),
+    Keyword::Part(PartWord::Schedule),
+    Keyword::Part(PartWord::Stop),
 ];
 
 /// The word that stands for a keyword.
@@ -35,16 +123,80 @@ pub fn text_of(keyword: Keyword) -> &'static str
     ensures { result.now ≡ text_of keyword }
 {
     match keyword {
-        Keyword::Fenix => "fenix",
-        Keyword::Ranks => "ranks",
-        Keyword::Spares => "spares",
-        Keyword::Separation => "separation",
-        Keyword::Array => "array",
-        Keyword::Begin => "begin",
-        Keyword::Print => "print",
-        Keyword::End => "end",
-        Keyword::Schedule => "schedule",
-        Keyword::Stop => "stop",
+        Keyword::Part(word) => part_text(word),
+        Keyword::Edge(word) => edge_text(word),
+        Keyword::Simple(word) => simple_text(word),
+        Keyword::Event(word) => event_text(word),
+    }
+}
+
+fn part_text(word: PartWord) -> &'static str
+    ensures { result.now ≡ part_text word }
+{
+    match word {
+        PartWord::Fenix => "fenix",
+        PartWord::Ranks => "ranks",
+        PartWord::Spares => "spares",
+        PartWord::Separation => "separation",
+        PartWord::Array => "array",
+        PartWord::Counter => "counter",
+        PartWord::Callback => "callback",
+        PartWord::EndCallback => "endcallback",
+        PartWord::Begin => "begin",
+        PartWord::End => "end",
+        PartWord::Schedule => "schedule",
+        PartWord::Stop => "stop",
+    }
+}
+
+fn edge_text(word: EdgeWord) -> &'static str
+    ensures { result.now ≡ edge_text word }
+{
+    match word {
+        EdgeWord::When => "when",
+        EdgeWord::EndWhen => "endwhen",
+        EdgeWord::If => "if",
+        EdgeWord::Else => "else",
+        EdgeWord::EndIf => "endif",
+        EdgeWord::For => "for",
+        EdgeWord::EndFor => "endfor",
+    }
+}
+
+fn simple_text(word: SimpleWord) -> &'static str
+    ensures { result.now ≡ simple_text word }
+{
+    match word {
+        SimpleWord::Let => "let",
+        SimpleWord::Set => "set",
+        SimpleWord::Print => "print",
+        SimpleWord::Register => "register",
+        SimpleWord::Barrier => "barrier",
+        SimpleWord::Sum => "sum",
+        SimpleWord::Min => "min",
+        SimpleWord::Max => "max",
+        SimpleWord::Agree => "agree",
+        SimpleWord::Shift => "shift",
+        SimpleWord::Group => "group",
+        SimpleWord::Member => "member",
+        SimpleWord::Store => "store",
+        SimpleWord::Commit => "commit",
+        SimpleWord::CommitBarrier => "commitbarrier",
+        SimpleWord::Restore => "restore",
+        SimpleWord::Drop => "drop",
+    }
+}
+
+fn event_text(word: EventWord) -> &'static str
+    ensures { result.now ≡ event_text word }
+{
+    match word {
+        EventWord::Step => "step",
+        EventWord::Rest => "rest",
+        EventWord::Deliver => "deliver",
+        EventWord::Kill => "kill",
+        EventWord::Notice => "notice",
+        EventWord::Run => "run",
     }
 }
 
@@ -52,12 +204,9 @@ pub fn text_of(keyword: Keyword) -> &'static str
 pub fn keyword_of(word: &[u8]) -> Option<Keyword>
     ensures { result ≡ keyword_of word.now }
 {
-    for keyword in ALL {
-        if is_text(word, text_of(keyword)) {
-            return Some(keyword);
-        }
-    }
-    None
+    ALL.iter()
+        .copied()
+        .find(|keyword| is_text(word, text_of(*keyword)))
 }
 
 /// Whether a word is this text.

@@ -3,6 +3,8 @@
 
 mod cursor;
 mod draft;
+mod expr;
+mod expr_word;
 mod head;
 mod job;
 mod keyword;
@@ -10,7 +12,14 @@ mod name;
 mod read;
 mod reader;
 mod refusal;
+mod stack;
+mod stand;
+mod statement;
 
-pub use job::{Decl, Job, Names, Stmt, Stmts};
+pub use expr::Expr;
+pub use job::{
+    Callback, Callbacks, Decl, Event, EventKind, Events, Job, Names, NumPairs, Picked, Stmt, Stmts,
+    Test,
+};
 pub use read::read_job;
 pub use refusal::{JobFault, ReadJob};

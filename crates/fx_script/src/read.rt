@@ -1,7 +1,6 @@
 ghost use Rattle.std.specs.Prelude.{◌≡◌, ◌<◌, ◌-◌, ◌^◌, length, IfOk, Ok};
 ghost use Rattle.fx_script.specs.Answers.{Answers};
 ghost use Rattle.fx_script.specs.Reading.{job_in};
-ghost use Rattle.fx_script.specs.Spelling.{Spells};
 
 use crate::job::Job;
 use crate::reader::read_text;
@@ -14,10 +13,6 @@ use std::alloc::Global;
 /// then too long a line, then a missing line end, then the words from the left.
 pub fn read_job(alloc: Global, text: &[u8]) -> Result<Job, ReadJob>
     requires { length text.now < 2 ^ 32 - 1 }
-    // What is read is spelled so, its spots and all.
-    ensures found { IfOk result (λ job. Spells text.now job) }
-    // What is spelled so is read, unless memory runs out.
-    ensures only { (job : Job) → Spells text.now job → Answers result (Ok job) }
     // Which refusal it is.
     ensures exact { Answers result (job_in text.now) }
 {
@@ -28,10 +23,5 @@ fn read_exactly(alloc: Global, text: &[u8]) -> Result<Job, ReadJob>
     requires { length text.now < 2 ^ 32 - 1 }
     ensures { Answers result (job_in text.now) }
 {
-    let draft = read_text(alloc, text)?;
-    Ok(Job {
-        separation: draft.separation,
-        names: draft.names,
-        body: draft.body,
-    })
+    Ok(read_text(alloc, text)?.job)
 }

@@ -5,10 +5,11 @@ ghost use Rattle.fx_script.specs.Reading.{sound, head_in, taken, line_taken, at_
 ghost use Rattle.fx_script.specs.Answers.{Advances, Proceeds, Answers};
 
 use crate::cursor::{Cursor, FoundWord};
-use crate::draft::{Draft, Stage, may_stand};
+use crate::draft::{Draft, Stage};
 use crate::head::{Head, read_head};
 use crate::keyword::keyword_of;
 use crate::refusal::{JobFault, ReadJob, Stop, Wrong};
+use crate::stand::may_stand;
 use fx_base::Spot;
 use fx_text::{LONGEST_LINE, LineFault, check_line, next_line};
 use std::alloc::Global;
@@ -98,12 +99,12 @@ fn take_met(
     ensures { Advances result draft.new
         (taken draft.old (Some (record { number = number; first = word_of first.entry; left = cursor.old }))) }
 {
-    let head = head_of(alloc, draft.stage, first, cursor)?;
     let spot = Spot {
         line: number,
         column: first.column,
     };
-    draft.take(spot, head)?;
+    let head = head_of(alloc, draft, spot, first, cursor)?;
+    draft.take(alloc, spot, head)?;
     Ok(())
 }
 
@@ -130,17 +131,25 @@ fn see_sound(line: &[u8], ended: bool) -> Result<(), Wrong>
 }
 
 // Reads what a line says whose first word was read.
-fn head_of(alloc: Global, stage: Stage, first: FoundWord, cursor: &mut Cursor) -> Result<Head, Stop>
-    ensures { Gives result (head_in stage (word_of first.entry) cursor.old) }
+fn head_of(
+    alloc: Global,
+    draft: &Draft,
+    spot: Spot,
+    first: FoundWord,
+    cursor: &mut Cursor,
+) -> Result<Head, Stop>
+    ensures { Gives result (head_in draft.entry.now.stage draft.entry.now.blocks spot (word_of first.entry) cursor.old) }
 {
-    if stage == Stage::Stopped {
+    if draft.stage == Stage::Stopped {
         return Err(Stop::Wrong(Wrong {
             fault: JobFault::TrailingText,
             column: first.column,
         }));
     }
     match keyword_of(first.bytes) {
-        Some(keyword) if may_stand(stage, keyword) => read_head(alloc, keyword, cursor),
+        Some(keyword) if may_stand(draft.stage, &draft.blocks, keyword) => {
+            read_head(alloc, keyword, spot, cursor)
+        }
         _ => Err(first.misfit()),
     }
 }
