@@ -5,8 +5,6 @@ use Rattle.fx_base.specs.declared.spot.Spot.{Spot}
 use Rattle.fx_io.specs.Told.{Loses, IsAtEnd, Gains}
 use Rattle.fx_script.specs.declared.job.Job.{Job}
 use Rattle.fx_script.specs.Reading.{Refusal, job_in}
-use Rattle.fx_script.specs.Spelling.{Spells}
-use Rattle.fx_script.proofs.Laws.{is_spelled, is_read}
 use Rattle.fx_cli.specs.declared.status.Status.{Status}
 use Rattle.fx_cli.specs.declared.status.Status.TheVariants.{Done, BadWords, BadJob, ReadFault, WriteFault, NoMemory}
 use Rattle.fx_cli.specs.Built.{first_unbuilt, plan_of}
@@ -36,7 +34,7 @@ job_run left left' written written' text job None is built short read end done g
   read = read;
   at_end = end;
   short = short;
-  spelled = is_spelled text (Ok job) is;
+  read_as = is;
   built = built;
   legal = is_legal (plan_of job);
   gained = gained;
@@ -118,15 +116,14 @@ is_due words left left' written written' NoMemory e held told = tt
 
 -- a job that is spelled and can be run is due to be run
 done_due : (words : List (List ℕ)) (held : List ℕ) (job : Job) → are_run words ≡ true → length held ≤ longest_job →
-    Spells held job → first_unbuilt job ≡ None → (due_to (input_of words held)).status ≡ Done
-done_due words held job run short spells built =
-    let read : job_in held ≡ Ok job = is_read held job spells in
+    job_in held ≡ Ok job → first_unbuilt job ≡ None → (due_to (input_of words held)).status ≡ Done
+done_due words held job run short read built =
     ap (λ (i : Input). (due_to i).status) (by_words words held true false run (not_more (length held) short))
     ∙ ap (λ (r : Result Job Refusal). (due_to_reading r).status) read
     ∙ ap (λ (o : Option Spot). (due_to_job job o).status) built
 
 pub is_ran : (words : List (List ℕ)) (left left' written written' : Option (List ℕ)) (s : Status) →
     Ends words left left' written written' s → (held : List ℕ) (job : Job) → are_run words ≡ true → left ≡ Some held →
-    length held ≤ longest_job → Spells held job → first_unbuilt job ≡ None → IsUnlessCut Done s
-is_ran words left left' written written' s e held job run told short spells built =
-    subst (λ (due : Status). IsUnlessCut due s) (done_due words held job run short spells built) (is_due words left left' written written' s e held told)
+    length held ≤ longest_job → job_in held ≡ Ok job → first_unbuilt job ≡ None → IsUnlessCut Done s
+is_ran words left left' written written' s e held job run told short read built =
+    subst (λ (due : Status). IsUnlessCut due s) (done_due words held job run short read built) (is_due words left left' written written' s e held told)

@@ -57,6 +57,7 @@ fn put_stmt<K: Sink>(alloc: Global, names: &[Decl], statement: &Stmt, sink: &mut
             let items = one(alloc, print_of(alloc, names, name)?)?;
             put_items(alloc, items.as_slice(), sink)
         }
+        _ => Ok(()),
     }
 }
 
@@ -106,6 +107,7 @@ fn named(decl: &Decl) -> (&[u8], usize)
 {
     match decl {
         Decl::Array { name, len, .. } => (name.as_slice(), usize::try_from(*len).unwrap_or(0)),
+        Decl::Counter { name, .. } => (name.as_slice(), 0),
     }
 }
 
