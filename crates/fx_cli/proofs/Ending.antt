@@ -1,5 +1,5 @@
 -- What the end of a call says of it.
-use Rattle.std.proofs.Common.{◌≡◌, ℕ, ◌<◌, ◌≤◌, ◌⊎◌, inl, inr, Bool, true, false, nat_lt, if◌then◌else◌, List, [], ◌∷◌, ◌++◌, length, Option, Some, None, Result, Ok, Err, refl, sym, ap, subst, ◌∙◌, arith, length-append}
+use Rattle.std.proofs.Common.{◌≡◌, ℕ, ◌<◌, ◌≤◌, inl, Bool, true, false, nat_lt, if◌then◌else◌, List, ◌++◌, length, Option, Some, None, Result, Ok, Err, refl, sym, ap, subst, ◌∙◌, arith, length-append}
 use Rattle.std.proofs.lemmas.List.{append-nil}
 use Rattle.fx_base.specs.declared.spot.Spot.{Spot}
 use Rattle.fx_io.specs.Told.{Loses, IsAtEnd, Gains}
@@ -8,8 +8,8 @@ use Rattle.fx_script.specs.Reading.{Refusal, job_in}
 use Rattle.fx_cli.specs.declared.status.Status.{Status}
 use Rattle.fx_cli.specs.declared.status.Status.TheVariants.{Done, BadWords, BadJob, ReadFault, WriteFault, NoMemory}
 use Rattle.fx_cli.specs.Built.{first_unbuilt, plan_of}
-use Rattle.fx_cli.specs.Dues.{longest_job, are_run, Input, WrongWords, TooLong, Whole, IsInput, input_of, Due, due_to, due_to_reading, due_to_job}
-use Rattle.fx_cli.specs.Ends.{Settles, Answered, Ends, IsRun, IsUnlessCut}
+use Rattle.fx_cli.specs.Dues.{longest_job, are_run, Input, WrongWords, TooLong, Whole, IsInput, input_of, due_to, due_to_reading, due_to_job}
+use Rattle.fx_cli.specs.Ends.{Settles, Ends, IsRun, IsUnlessCut}
 use Rattle.fx_cli.specs.Plan.{journal_of}
 use Rattle.fx_cli.proofs.LegalJournal.{is_legal}
 

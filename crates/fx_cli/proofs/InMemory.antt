@@ -1,7 +1,6 @@
 -- A call over bytes in memory.
-use Rattle.std.proofs.Common.{◌≡◌, ℕ, ◌^◌, ◌<◌, ◌≤◌, ◌⊎◌, inl, inr, List, [], ◌∷◌, ◌++◌, Option, Some, None, refl, sym, ap, subst, ◌∙◌, arith}
+use Rattle.std.proofs.Common.{◌≡◌, ℕ, inl, inr, List, [], ◌++◌, Option, Some, refl, sym, ap, ◌∙◌, arith}
 use Rattle.fx_io.specs.Faults.{Rose}
-use Rattle.fx_io.specs.Told.{Gains, GainsFront}
 use Rattle.fx_cli.specs.declared.status.Status.{Status}
 use Rattle.fx_cli.specs.declared.status.Status.TheVariants.{Done, BadWords, BadJob, ReadFault, WriteFault, NoMemory}
 use Rattle.fx_cli.specs.Dues.{Input, IsInput, input_of, Due, due_to}
@@ -44,4 +43,4 @@ in_memory words held written left' ReadFault e r w = no_rise (r refl)
 in_memory words held written left' WriteFault e r w = no_rise (w refl)
 in_memory words held written left' NoMemory e r w =
     elim e as (λ _. (rest : List ℕ) × ((due_to (input_of words held)).output ≡ written ++ rest))
-        [ inl part ↦ in_part words held written left' part | inr none ↦ nothing words held written (due_to (input_of words held)).output left' none ]
+    [ inl part ↦ in_part words held written left' part | inr none ↦ nothing words held written (due_to (input_of words held)).output left' none ]

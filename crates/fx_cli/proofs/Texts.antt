@@ -1,6 +1,6 @@
 -- The texts of lists of items.
 use Rattle.std.proofs.Common.{◌≡◌, ℕ, suc, ◌+◌, ◌<◌, List, [], ◌∷◌, ◌++◌, map, drop, get_or, length, refl, sym, ap, ◌∙◌, append_assoc, add-one, drop-cons}
-use Rattle.std.proofs.lemmas.List.{append-nil, map-append}
+use Rattle.std.proofs.lemmas.List.{map-append}
 use Rattle.fx_script.specs.declared.job.Stmt.{Stmt}
 use Rattle.fx_cli.specs.declared.item.Item.{Item}
 use Rattle.fx_cli.specs.Built.{printed_by, printed_in}
@@ -24,8 +24,8 @@ pub prints_from : (arrays : List Named) (body : List Stmt) (k : ℕ) (s : Stmt) 
 prints_from arrays body k s below is =
     ap (λ (b : List Stmt). text_of (map (print_of arrays) (printed_in b))) (drop-cons body k s below)
     ∙ rw (← is, add-one) (
-      ap text_of (map-append (print_of arrays) (printed_by s) (printed_in (drop (suc k) body)))
-      ∙ text_append (map (print_of arrays) (printed_by s)) (map (print_of arrays) (printed_in (drop (suc k) body))))
+    ap text_of (map-append (print_of arrays) (printed_by s) (printed_in (drop (suc k) body)))
+    ∙ text_append (map (print_of arrays) (printed_by s)) (map (print_of arrays) (printed_in (drop (suc k) body))))
 
 pub journal_text : (plan : Plan) → text_of (journal_of plan) ≡ text_of opening ++ (text_of (map (print_of plan.arrays) plan.printed) ++ text_of closing)
 journal_text plan =

@@ -1,12 +1,11 @@
 -- One piece after another.
-use Rattle.std.proofs.Common.{◌≡◌, ℕ, ◌+◌, ◌≤◌, List, [], ◌∷◌, ◌++◌, Option, Some, None, Result, Ok, Err, refl, sym, ap, subst, ◌∙◌, append_assoc, inl, inr, arith}
+use Rattle.std.proofs.Common.{◌≡◌, ℕ, ◌≤◌, List, [], ◌++◌, Option, Some, None, Result, Ok, Err, refl, sym, subst, ◌∙◌, append_assoc, inl, inr, arith}
 use Rattle.std.proofs.lemmas.List.{append-nil}
 use Rattle.fx_io.specs.Told.{Gains, GainsFront}
 use Rattle.fx_io.specs.Faults.{Rose}
 use Rattle.fx_io.proofs.Joined.{gains_more}
 use Rattle.fx_cli.specs.declared.put.Cut.{Cut}
 use Rattle.fx_cli.specs.declared.put.Cut.TheVariants as cut
-use Rattle.fx_cli.specs.declared.status.Status.{Status}
 use Rattle.fx_cli.specs.declared.status.Status.TheVariants as status
 use Rattle.fx_base.specs.declared.spot.Spot.{Spot}
 use Rattle.fx_script.specs.declared.job.Job.{Job}
@@ -50,10 +49,12 @@ goes_on a b c f g h whole line rest so p =
 
 front_more : (a b c : Option (List ℕ)) (whole before line rest : List ℕ) → whole ≡ before ++ (line ++ rest) →
     Gains a b before → GainsFront b c line → GainsFront a c whole
-front_more a b c whole before line rest split added front =
-    (before ++ front.0, front.1 ++ rest,
-     split ∙ rw front.2 (simp append_assoc),
-     gains_more a b c before front.0 added front.3)
+front_more a b c whole before line rest split added front = (
+  before ++ front.0,
+  front.1 ++ rest,
+  split ∙ rw front.2 (simp append_assoc),
+  gains_more a b c before front.0 added front.3,
+)
 
 -- a count that doesn't fall and then rises rises
 rose_later : (f g h : ℕ) → f ≤ g → Rose g h → Rose f h

@@ -1,5 +1,5 @@
 -- Which jobs are run so far, and what they come to.
-use Rattle.std.specs.Prelude.{◌≡◌, ℕ, ◌+◌, ℤ, pos, negsuc, Bool, true, false, not, ◌&&◌, nat_le, nat_lt, if◌then◌else◌, List, [], ◌∷◌, ◌++◌, length, map, codes, Option, Some, None, refl}
+use Rattle.std.specs.Prelude.{◌≡◌, ℕ, ◌+◌, ℤ, pos, negsuc, Bool, false, not, ◌&&◌, nat_le, nat_lt, if◌then◌else◌, List, [], ◌∷◌, ◌++◌, length, map, codes, Option, Some, None, refl}
 use Rattle.std.specs.List.{list_any}
 use Rattle.std.specs.Str.{bytes_eq}
 use Rattle.fx_base.specs.declared.spot.Spot.{Spot}
@@ -19,6 +19,7 @@ pub record Mark : Type 0 where
   pub spot : Spot
   pub built : Bool
 
+-- a line at this place
 abbrev pub mark : Spot → Bool → Mark
 mark spot built = record { spot = spot; built = built }
 
@@ -46,6 +47,7 @@ abbrev pub is_built_decl : List Decl → Decl → Bool
 is_built_decl before (decl.Array spot name len) = nat_lt (length before) 8 && is_between 1 256 len && not (list_any (is_of name) before)
 is_built_decl before (decl.Counter spot name) = false
 
+-- the place of a declaration
 abbrev pub decl_spot : Decl → Spot
 decl_spot (decl.Array spot name len) = spot
 decl_spot (decl.Counter spot name) = spot
@@ -55,7 +57,7 @@ abbrev pub decl_marks : List Decl → List Decl → List Mark
 decl_marks before [] = []
 decl_marks before (d ∷ decls) = mark (decl_spot d) (is_built_decl before d) ∷ decl_marks (before ++ d ∷ []) decls
 
--- no callback can be run
+-- no callback can be run yet
 abbrev pub callback_mark : Callback → Mark
 callback_mark callback = mark callback.spot false
 
@@ -64,7 +66,7 @@ abbrev pub is_built_stmt : List Decl → Stmt → Bool
 is_built_stmt names (stmt.Print spot name) = list_any (is_of name) names
 is_built_stmt names _ = false
 
--- the place of a statement; of a block, that of its first line
+-- the place of one level of a statement; of a block, that of its first line
 abbrev pub spot_level : Stmt-F Spot → Spot
 spot_level (Stmt-F.Let spot array value) = spot
 spot_level (Stmt-F.Set spot counter value) = spot
@@ -85,6 +87,7 @@ spot_level (Stmt-F.CommitBarrier spot group) = spot
 spot_level (Stmt-F.Restore spot group member stamp) = spot
 spot_level (Stmt-F.Drop spot group stamp) = spot
 
+-- the place of a statement
 abbrev pub stmt_spot : Stmt → Spot
 stmt_spot = fold-Stmt Spot spot_level
 
@@ -93,7 +96,7 @@ abbrev pub stmt_marks : List Decl → ℕ → List Stmt → List Mark
 stmt_marks names before [] = []
 stmt_marks names before (s ∷ body) = mark (stmt_spot s) (nat_lt before 20000 && is_built_stmt names s) ∷ stmt_marks names (before + 1) body
 
--- no event can be run
+-- no event can be run yet
 abbrev pub event_mark : Event → Mark
 event_mark event = mark event.spot false
 
@@ -115,20 +118,26 @@ marks_of job =
 abbrev pub first_unbuilt : Job → Option Spot
 first_unbuilt job = first_in (marks_of job)
 
--- the array of a declaration
+-- a second array of one name
+name_twice : is_built_decl (decl.Array (record { line = 5; column = 1 }) (codes "a") (pos 3) ∷ []) (decl.Array (record { line = 6; column = 1 }) (codes "a") (pos 3)) ≡ false
+name_twice = refl
+
+-- how long an array is declared to be
 abbrev pub len_of : ℤ → ℕ
 len_of (pos n) = n
 len_of (negsuc n) = 0
 
+-- what is declared, as an array
 abbrev pub named_of : Decl → Named
 named_of (decl.Array spot name len) = record { name = name; len = len_of len }
 named_of (decl.Counter spot name) = record { name = name; len = 0 }
 
--- the names that statements print, in order
+-- the name that a statement prints
 abbrev pub printed_by : Stmt → List (List ℕ)
 printed_by (stmt.Print spot name) = name ∷ []
 printed_by _ = []
 
+-- the names that statements print, in order
 abbrev pub printed_in : List Stmt → List (List ℕ)
 printed_in [] = []
 printed_in (s ∷ body) = printed_by s ++ printed_in body

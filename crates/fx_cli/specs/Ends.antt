@@ -1,5 +1,5 @@
 -- How a call of the program ends.
-use Rattle.std.specs.Prelude.{◌≡◌, ℕ, ◌≤◌, ◌⊎◌, true, List, ◌++◌, length, Option, Some, None, Result, Ok, Err}
+use Rattle.std.specs.Prelude.{◌≡◌, ℕ, ◌≤◌, ◌⊎◌, true, List, ◌++◌, length, Option, None, Result, Ok, Err, refl}
 use Rattle.fx_io.specs.Faults.{Rose}
 use Rattle.fx_io.specs.Reading.{Came}
 use Rattle.fx_io.specs.Told.{Loses, IsAtEnd, Gains, GainsFront}
@@ -92,3 +92,7 @@ IsInMemory due written (BadJob refusal spot) = (BadJob refusal spot ≡ due.stat
 IsInMemory due written ReadFault = ⊥
 IsInMemory due written WriteFault = ⊥
 IsInMemory due written NoMemory = (rest : List ℕ) × (due.output ≡ written ++ rest)
+
+-- a fault while the line of a refusal is written
+fault_first : settled (Err cut.WriteFault) BadWords ≡ WriteFault
+fault_first = refl

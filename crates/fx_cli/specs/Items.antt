@@ -1,7 +1,6 @@
 -- The items of a journal and their lines.
-use Rattle.std.specs.Prelude.{◌≡◌, ℕ, ℤ, pos, Bool, true, false, List, [], ◌∷◌, ◌++◌, map, codes, refl}
+use Rattle.std.specs.Prelude.{◌≡◌, ℕ, pos, Bool, true, false, List, [], ◌∷◌, ◌++◌, map, codes, refl}
 use Rattle.std.specs.Fmt.{digits, decimal, signed_decimal}
-use Rattle.fx_base.specs.declared.names.Epoch.{Epoch}
 use Rattle.fx_base.specs.declared.names.Ident.{Ident}
 use Rattle.fx_base.specs.declared.names.Proc.{Proc}
 use Rattle.fx_base.specs.declared.names.Role.{Role}

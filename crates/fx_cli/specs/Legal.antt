@@ -1,5 +1,5 @@
 -- Which journals a run may have. Nothing here knows how a journal is made.
-use Rattle.std.specs.Prelude.{◌≡◌, ℕ, ℤ, pos, Bool, true, false, if◌then◌else◌, List, [], ◌∷◌, map, replicate, codes, refl}
+use Rattle.std.specs.Prelude.{◌≡◌, ℕ, ℤ, pos, false, if◌then◌else◌, List, [], ◌∷◌, map, replicate, refl}
 use Rattle.std.specs.Str.{bytes_eq}
 use Rattle.fx_base.specs.declared.names.Epoch.{Epoch}
 use Rattle.fx_base.specs.declared.names.Ident.{Ident}

@@ -1,11 +1,10 @@
 -- A job of one rank without spares whose body prints arrays, and the journal of its run.
-use Rattle.std.specs.Prelude.{◌≡◌, ℕ, ℤ, pos, Bool, false, if◌then◌else◌, List, [], ◌∷◌, ◌++◌, map, replicate, codes, refl}
+use Rattle.std.specs.Prelude.{◌≡◌, ℕ, pos, false, if◌then◌else◌, List, [], ◌∷◌, ◌++◌, map, replicate, codes, refl}
 use Rattle.std.specs.Str.{bytes_eq}
 use Rattle.fx_base.specs.declared.names.Role.TheVariants.{Initial}
 use Rattle.fx_cli.specs.declared.item.Item.{Item}
 use Rattle.fx_cli.specs.declared.item.Item.TheVariants.{Join, Repaired, Init, Print, Ended}
 use Rattle.fx_cli.specs.declared.item.JoinKind.TheVariants.{Start, Final}
-use Rattle.fx_cli.specs.Items.{text_of}
 
 -- an array that is declared: its name and how many elements it has
 pub record Named : Type 0 where

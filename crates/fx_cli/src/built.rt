@@ -6,6 +6,7 @@ use fx_base::Spot;
 use fx_script::{Callback, Decl, Event, Job, Stmt};
 
 const MOST_NAMES: usize = 8;
+
 const MOST_STATEMENTS: usize = 20_000;
 
 /// The place of the first line of a job that can't be run yet.

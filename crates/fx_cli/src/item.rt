@@ -45,5 +45,7 @@ pub enum Item {
         numbers: Elems,
     },
     /// The process ended.
-    Ended { process: Proc },
+    Ended {
+        process: Proc,
+    },
 }

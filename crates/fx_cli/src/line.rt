@@ -144,7 +144,11 @@ fn kind_word(kind: JoinKind) -> &'static [u8]
 fn warning(depleted: bool) -> &'static [u8]
     ensures { result.now ≡ warning depleted }
 {
-    if depleted { b"spares-depleted" } else { b"full" }
+    if depleted {
+        b"spares-depleted"
+    } else {
+        b"full"
+    }
 }
 
 fn role_word(role: Role) -> &'static [u8]

@@ -29,18 +29,23 @@ fn put_body<K: Sink>(alloc: Global, job: &Job, sink: &mut K) -> Result<(), Cut>
 fn put_opening<K: Sink>(alloc: Global, sink: &mut K) -> Result<(), Cut>
     ensures { Puts (K.written sink.old) (K.written sink.new) (K.faults sink.old) (K.faults sink.new) (text_of opening) result }
 {
-    let items = opening(alloc)?;
-    put_items(alloc, items.as_slice(), sink)
+    let first = opening(alloc)?;
+    put_items(alloc, first.as_slice(), sink)
 }
 
 fn put_closing<K: Sink>(alloc: Global, sink: &mut K) -> Result<(), Cut>
     ensures { Puts (K.written sink.old) (K.written sink.new) (K.faults sink.old) (K.faults sink.new) (text_of closing) result }
 {
-    let items = closing(alloc)?;
-    put_items(alloc, items.as_slice(), sink)
+    let last = closing(alloc)?;
+    put_items(alloc, last.as_slice(), sink)
 }
 
-fn put_prints<K: Sink>(alloc: Global, names: &[Decl], body: &[Stmt], sink: &mut K) -> Result<(), Cut>
+fn put_prints<K: Sink>(
+    alloc: Global,
+    names: &[Decl],
+    body: &[Stmt],
+    sink: &mut K,
+) -> Result<(), Cut>
     ensures { Puts (K.written sink.old) (K.written sink.new) (K.faults sink.old) (K.faults sink.new) (text_of (map (print_of (map named_of names.now)) (printed_in body.now))) result }
 {
     for statement in body {
@@ -49,7 +54,12 @@ fn put_prints<K: Sink>(alloc: Global, names: &[Decl], body: &[Stmt], sink: &mut 
     Ok(())
 }
 
-fn put_stmt<K: Sink>(alloc: Global, names: &[Decl], statement: &Stmt, sink: &mut K) -> Result<(), Cut>
+fn put_stmt<K: Sink>(
+    alloc: Global,
+    names: &[Decl],
+    statement: &Stmt,
+    sink: &mut K,
+) -> Result<(), Cut>
     ensures { Puts (K.written sink.old) (K.written sink.new) (K.faults sink.old) (K.faults sink.new) (text_of (map (print_of (map named_of names.now)) (printed_by statement.now))) result }
 {
     match statement {

@@ -5,8 +5,14 @@ use fx_script::JobFault;
 use std::alloc::Global;
 use std::test::Fail;
 
-const TWO_PRINTS: &str = "fenix 1\nranks 1\nspares 0\nseparation 1\narray a 3\nbegin\nprint a\nprint a\nend\nschedule\nstop\n";
-const UNENDED: &str = "fenix 1\nranks 1\nspares 0\nseparation 1\narray a 3\nbegin\nprint a\nprint a\nend\nschedule\nstop";
+const TWO_PRINTS: &str =
+    "fenix 1\nranks 1\nspares 0\nseparation 1\narray a 3\nbegin\nprint a\nprint a\nend\nschedule\nstop\n";
+
+const TWO_RANKS: &str =
+    "fenix 1\nranks 2\nspares 0\nseparation 1\narray a 3\nbegin\nprint a\nprint a\nend\nschedule\nstop\n";
+
+const UNENDED: &str =
+    "fenix 1\nranks 1\nspares 0\nseparation 1\narray a 3\nbegin\nprint a\nprint a\nend\nschedule\nstop";
 
 fn bytes_of(alloc: Global, text: &str) -> Result<Bytes, Fail> {
     let mut bytes = Bytes::new(alloc);
@@ -35,7 +41,8 @@ fn bad(fault: JobFault, line: u32, column: u32) -> Status {
 #[test]
 fn texts_are_answered(rt: HostRuntime) -> Result<(), Fail> {
     let alloc = rt.alloc();
-    let journal = "join 0 1 start\nrepaired 0 1 1 full : 0=0\ninit 0 1 initial 0 0 1 full\nprint 0 1 a : 0 0 0\nprint 0 1 a : 0 0 0\njoin 0 2 final\nended 0\n";
+    let journal =
+        "join 0 1 start\nrepaired 0 1 1 full : 0=0\ninit 0 1 initial 0 0 1 full\nprint 0 1 a : 0 0 0\nprint 0 1 a : 0 0 0\njoin 0 2 final\nended 0\n";
     let bad_words = "fenix: bad words\n";
     for (words, text, status, output) in [
         ("run", TWO_PRINTS, Status::Done, journal),
@@ -43,8 +50,24 @@ fn texts_are_answered(rt: HostRuntime) -> Result<(), Fail> {
         ("walk", TWO_PRINTS, Status::BadWords, bad_words),
         ("check", TWO_PRINTS, Status::BadWords, bad_words),
         ("", TWO_PRINTS, Status::BadWords, bad_words),
-        ("run", "", bad(JobFault::MissingPart, 1, 1), "fenix: bad job: MissingPart at 1:1\n"),
-        ("run", UNENDED, bad(JobFault::BadLine, 11, 5), "fenix: bad job: BadLine at 11:5\n"),
+        (
+            "run",
+            TWO_RANKS,
+            Status::BadJob(Refusal::NotBuilt, Spot { line: 2, column: 1 }),
+            "fenix: bad job: NotBuilt at 2:1\n",
+        ),
+        (
+            "run",
+            "",
+            bad(JobFault::MissingPart, 1, 1),
+            "fenix: bad job: MissingPart at 1:1\n",
+        ),
+        (
+            "run",
+            UNENDED,
+            bad(JobFault::BadLine, 11, 5),
+            "fenix: bad job: BadLine at 11:5\n",
+        ),
     ] {
         let words = words_of(alloc, words)?;
         let (ended, sink) = fenix_in_memory(alloc, words.as_slice(), bytes_of(alloc, text)?);
@@ -63,9 +86,15 @@ fn too_many_bytes_are_refused(rt: HostRuntime) -> Result<(), Fail> {
     }
     let words = words_of(alloc, "run")?;
     let (ended, sink) = fenix_in_memory(alloc, words.as_slice(), text);
-    assert_eq!(rt; ended, Status::BadJob(Refusal::TooBig, Spot { line: 1, column: 1 }));
+    assert_eq!(rt;
+        ended,
+        Status::BadJob(Refusal::TooBig, Spot { line: 1, column: 1 })
+    );
     assert_eq!(rt; code(&ended), 3);
-    assert_eq!(rt; sink.written().as_slice(), b"fenix: bad job: TooBig at 1:1\n".as_slice());
+    assert_eq!(rt;
+        sink.written().as_slice(),
+        b"fenix: bad job: TooBig at 1:1\n".as_slice()
+    );
     Ok(())
 }
 
@@ -77,7 +106,10 @@ fn a_sink_fails_at_its_third_line(rt: HostRuntime) -> Result<(), Fail> {
     let mut sink = MemSink::new(alloc, numbers(alloc, 3)?);
     let ended = fenix(alloc, words.as_slice(), &mut source, &mut sink);
     assert_eq!(rt; ended, Status::WriteFault);
-    assert_eq!(rt; sink.written().as_slice(), b"join 0 1 start\nrepaired 0 1 1 full : 0=0\n".as_slice());
+    assert_eq!(rt;
+        sink.written().as_slice(),
+        b"join 0 1 start\nrepaired 0 1 1 full : 0=0\n".as_slice()
+    );
     Ok(())
 }
 

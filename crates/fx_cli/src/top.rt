@@ -23,7 +23,12 @@ const LONGEST_JOB: usize = 1_048_576;
 ///
 /// The one word that it knows is `run`. The source is read to its end, and the text must spell a job that can be
 /// run; then the journal of its run is written, each line as one piece with its line end. A refusal is one line.
-pub fn fenix<S: Source, K: Sink>(alloc: Global, words: &[String], source: &mut S, sink: &mut K) -> Status
+pub fn fenix<S: Source, K: Sink>(
+    alloc: Global,
+    words: &[String],
+    source: &mut S,
+    sink: &mut K,
+) -> Status
     // What was read and written, by the status.
     ensures ends { Ends (map string_bytes words.now) (S.left source.old) (S.left source.new) (K.written sink.old) (K.written sink.new) result }
     // Done: the source held a text of a job that can be run, and the text of a legal journal of it was written.
@@ -101,7 +106,10 @@ fn refuse<K: Sink>(alloc: Global, refusal: Refusal, spot: Spot, sink: &mut K) ->
     ensures { Settles (due_refusal refusal spot) (K.written sink.old) (K.written sink.new) (K.faults sink.old) (K.faults sink.new) result }
 {
     match refusal_line(alloc, refusal, spot) {
-        Ok(line) => settled(put_line(sink, line.as_slice()), Status::BadJob(refusal, spot)),
+        Ok(line) => settled(
+            put_line(sink, line.as_slice()),
+            Status::BadJob(refusal, spot),
+        ),
         Err(_) => Status::NoMemory,
     }
 }

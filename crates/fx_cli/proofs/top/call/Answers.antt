@@ -1,4 +1,4 @@
-use Rattle.std.proofs.Common.{◌≡◌, ◌≤◌, ℕ, List, true, length, map, string_bytes, subst, sym, refl, arith}
+use Rattle.std.proofs.Common.{◌≡◌, ◌≤◌, ℕ, List, true, length, map, string_bytes, subst, sym, arith}
 use Rattle.std.proofs.lemmas.Grind.{common_steps}
 use Rattle.fx_io.specs.Told.{Loses}
 use Rattle.fx_cli.specs.Dues.{are_run, longest_job, Whole}
@@ -13,6 +13,6 @@ returns-in-Ok-clause-ends g c =
     let short = subst (λ (t : List ℕ). length t ≤ longest_job) same read.0 in
     let gone = subst (λ (t : List ℕ). Loses (g.S.Source.left c.args.source.now) (g.S.Source.left c.read_whole.new.source) t) same read.1 in
     ends_of (map string_bytes c.args.words.now) (g.S.Source.left c.args.source.now) (g.S.Source.left c.read_whole.new.source)
-        (g.K.Sink.written c.args.sink.now) (g.K.Sink.written c.answer.new.sink)
-        (g.K.Sink.faults c.args.sink.now) (g.K.Sink.faults c.answer.new.sink) (Whole c.as_slice.result.now) c.answer.result
-        (run, short, gone, read.2) c.answer.ensures
+    (g.K.Sink.written c.args.sink.now) (g.K.Sink.written c.answer.new.sink)
+    (g.K.Sink.faults c.args.sink.now) (g.K.Sink.faults c.answer.new.sink) (Whole c.as_slice.result.now) c.answer.result
+    (run, short, gone, read.2) c.answer.ensures
