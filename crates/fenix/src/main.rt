@@ -3,9 +3,8 @@
 
 use fx_cli::code;
 use fx_io::{StdSink, StdSource};
-use std::env;
-use std::io;
 use std::process::ExitCode;
+use std::{env, io};
 
 fn main(rt: HostRuntime) -> ExitCode {
     match words(&rt) {
