@@ -8,6 +8,6 @@ pub mod SoFar
 pub mod Adds
 pub mod Found
 pub mod Again
-pub mod Laws
+pub mod Spelled
 pub mod ExprSteps
 pub mod PairSteps

@@ -8,6 +8,7 @@ mod expr_word;
 mod head;
 mod job;
 mod keyword;
+pub mod laws;
 mod name;
 mod read;
 mod reader;
@@ -23,3 +24,6 @@ pub use job::{
 };
 pub use read::read_job;
 pub use refusal::{JobFault, ReadJob};
+
+#[cfg(test)]
+mod tests;

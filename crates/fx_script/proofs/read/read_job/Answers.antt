@@ -2,7 +2,7 @@ use Rattle.std.proofs.Common.{Result, Ok, subst}
 use Rattle.fx_script.specs.declared.job.Job.{Job}
 use Rattle.fx_script.specs.Answers.{Answers}
 use Rattle.fx_script.specs.Reading.{Refusal}
-use Rattle.fx_script.proofs.Laws.{is_spelled, is_read}
+use Rattle.fx_script.proofs.Spelled.{is_spelled, is_read}
 use Rattle.fx_script.proofs.read.read_job.Goals as goal
 
 pub returns-clause-found : goal.returns-clause-found

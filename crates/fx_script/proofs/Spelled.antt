@@ -46,7 +46,7 @@ read_as job = Ok job
 ok_job : (a b : Job) → read_as a ≡ read_as b → a ≡ b
 ok_job a b e = cc
 
-job_found : (text : List ℕ) (r : Result Draft Refusal) (job : Job) → reading text ≡ r → job_in_draft r ≡ Ok job → Spells text job
+pub job_found : (text : List ℕ) (r : Result Draft Refusal) (job : Job) → reading text ≡ r → job_in_draft r ≡ Ok job → Spells text job
 job_found text (Ok d) job is e = subst (λ (j : Job). Spells text j) (ok_job d.job job e) (draft_found text d is)
 job_found text (Err r) job is e = absurd cc
 

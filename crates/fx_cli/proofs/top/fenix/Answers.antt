@@ -1,0 +1,18 @@
+use Rattle.std.proofs.Common.{map, string_bytes}
+use Rattle.fx_cli.proofs.Ending.{is_run, is_due, is_ran}
+use Rattle.fx_cli.proofs.top.fenix.Goals as goal
+
+pub returns-clause-done_is_a_run : goal.returns-clause-done_is_a_run
+returns-clause-done_is_a_run g c =
+    is_run (map string_bytes c.args.words.now) (g.S.Source.left c.args.source.now) (g.S.Source.left c.call.new.source)
+    (g.K.Sink.written c.args.sink.now) (g.K.Sink.written c.call.new.sink) c.call.result c.call.ensures.ends
+
+pub returns-clause-status_is_due : goal.returns-clause-status_is_due
+returns-clause-status_is_due g c =
+    is_due (map string_bytes c.args.words.now) (g.S.Source.left c.args.source.now) (g.S.Source.left c.call.new.source)
+    (g.K.Sink.written c.args.sink.now) (g.K.Sink.written c.call.new.sink) c.call.result c.call.ensures.ends
+
+pub returns-clause-jobs_are_run : goal.returns-clause-jobs_are_run
+returns-clause-jobs_are_run g c =
+    is_ran (map string_bytes c.args.words.now) (g.S.Source.left c.args.source.now) (g.S.Source.left c.call.new.source)
+    (g.K.Sink.written c.args.sink.now) (g.K.Sink.written c.call.new.sink) c.call.result c.call.ensures.ends

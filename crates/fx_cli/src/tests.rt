@@ -1,0 +1,126 @@
+use super::*;
+use fx_base::{Bytes, Elems, Spot};
+use fx_io::{MemSink, MemSource, SureSink, SureSource};
+use fx_script::JobFault;
+use std::alloc::Global;
+use std::test::Fail;
+
+const TWO_PRINTS: &str =
+    "fenix 1\nranks 1\nspares 0\nseparation 1\narray a 3\nbegin\nprint a\nprint a\nend\nschedule\nstop\n";
+
+const TWO_RANKS: &str =
+    "fenix 1\nranks 2\nspares 0\nseparation 1\narray a 3\nbegin\nprint a\nprint a\nend\nschedule\nstop\n";
+
+const UNENDED: &str =
+    "fenix 1\nranks 1\nspares 0\nseparation 1\narray a 3\nbegin\nprint a\nprint a\nend\nschedule\nstop";
+
+fn bytes_of(alloc: Global, text: &str) -> Result<Bytes, Fail> {
+    let mut bytes = Bytes::new(alloc);
+    bytes.append(text.as_bytes())?;
+    Ok(bytes)
+}
+
+fn numbers(alloc: Global, number: i64) -> Result<Elems, Fail> {
+    let mut list = Elems::new(alloc);
+    list.push(number)?;
+    Ok(list)
+}
+
+fn words_of(alloc: Global, line: &str) -> Result<Vec<String>, Fail> {
+    let mut words = Vec::new(alloc);
+    for word in line.split_ascii_whitespace() {
+        words.push(String::from_str(alloc, word)?)?;
+    }
+    Ok(words)
+}
+
+fn bad(fault: JobFault, line: u32, column: u32) -> Status {
+    Status::BadJob(Refusal::Text(fault), Spot { line, column })
+}
+
+#[test]
+fn texts_are_answered(rt: HostRuntime) -> Result<(), Fail> {
+    let alloc = rt.alloc();
+    let journal =
+        "join 0 1 start\nrepaired 0 1 1 full : 0=0\ninit 0 1 initial 0 0 1 full\nprint 0 1 a : 0 0 0\nprint 0 1 a : 0 0 0\njoin 0 2 final\nended 0\n";
+    let bad_words = "fenix: bad words\n";
+    for (words, text, status, output) in [
+        ("run", TWO_PRINTS, Status::Done, journal),
+        ("run run", TWO_PRINTS, Status::BadWords, bad_words),
+        ("walk", TWO_PRINTS, Status::BadWords, bad_words),
+        ("check", TWO_PRINTS, Status::BadWords, bad_words),
+        ("", TWO_PRINTS, Status::BadWords, bad_words),
+        (
+            "run",
+            TWO_RANKS,
+            Status::BadJob(Refusal::NotBuilt, Spot { line: 2, column: 1 }),
+            "fenix: bad job: NotBuilt at 2:1\n",
+        ),
+        (
+            "run",
+            "",
+            bad(JobFault::MissingPart, 1, 1),
+            "fenix: bad job: MissingPart at 1:1\n",
+        ),
+        (
+            "run",
+            UNENDED,
+            bad(JobFault::BadLine, 11, 5),
+            "fenix: bad job: BadLine at 11:5\n",
+        ),
+    ] {
+        let words = words_of(alloc, words)?;
+        let (ended, sink) = fenix_in_memory(alloc, words.as_slice(), bytes_of(alloc, text)?);
+        assert_eq!(rt; ended, status, "at {output}");
+        assert_eq!(rt; sink.written().as_slice(), output.as_bytes(), "at {output}");
+    }
+    Ok(())
+}
+
+#[test]
+fn too_many_bytes_are_refused(rt: HostRuntime) -> Result<(), Fail> {
+    let alloc = rt.alloc();
+    let mut text = Bytes::new(alloc);
+    for _ in 0..1_048_577 {
+        text.push(b'#')?;
+    }
+    let words = words_of(alloc, "run")?;
+    let (ended, sink) = fenix_in_memory(alloc, words.as_slice(), text);
+    assert_eq!(rt;
+        ended,
+        Status::BadJob(Refusal::TooBig, Spot { line: 1, column: 1 })
+    );
+    assert_eq!(rt; code(&ended), 3);
+    assert_eq!(rt;
+        sink.written().as_slice(),
+        b"fenix: bad job: TooBig at 1:1\n".as_slice()
+    );
+    Ok(())
+}
+
+#[test]
+fn a_sink_fails_at_its_third_line(rt: HostRuntime) -> Result<(), Fail> {
+    let alloc = rt.alloc();
+    let words = words_of(alloc, "run")?;
+    let mut source = SureSource::new(bytes_of(alloc, TWO_PRINTS)?);
+    let mut sink = MemSink::new(alloc, numbers(alloc, 3)?);
+    let ended = fenix(alloc, words.as_slice(), &mut source, &mut sink);
+    assert_eq!(rt; ended, Status::WriteFault);
+    assert_eq!(rt;
+        sink.written().as_slice(),
+        b"join 0 1 start\nrepaired 0 1 1 full : 0=0\n".as_slice()
+    );
+    Ok(())
+}
+
+#[test]
+fn a_source_fails_at_its_second_call(rt: HostRuntime) -> Result<(), Fail> {
+    let alloc = rt.alloc();
+    let words = words_of(alloc, "run")?;
+    let mut source = MemSource::new(bytes_of(alloc, TWO_PRINTS)?, 64, numbers(alloc, 2)?);
+    let mut sink = SureSink::new(alloc);
+    let ended = fenix(alloc, words.as_slice(), &mut source, &mut sink);
+    assert_eq!(rt; ended, Status::ReadFault);
+    assert_eq!(rt; sink.written().len(), 0);
+    Ok(())
+}

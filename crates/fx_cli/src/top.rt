@@ -1,0 +1,140 @@
+ghost use Rattle.std.specs.Prelude.{◌≡◌, ◌≤◌, ℕ, List, IfOk, None, Ok, Some, length, map, string_bytes, true};
+ghost use Rattle.fx_io.specs.Faults.{Rose};
+ghost use Rattle.fx_script.specs.Reading.{job_in};
+ghost use Rattle.fx_cli.specs.Answers.{refusal_line};
+ghost use Rattle.fx_cli.specs.Built.{first_unbuilt};
+ghost use Rattle.fx_cli.specs.Dues.{WrongWords, are_run, due_refusal, due_to, due_to_job, due_to_reading, input_of, longest_job};
+ghost use Rattle.fx_cli.specs.Ends.{Ends, IsRun, IsUnlessCut, Settles, settled};
+
+use crate::built::first_unbuilt;
+use crate::put::{Cut, put_line};
+use crate::run::write_journal;
+use crate::status::{Refusal, Status, reason_of};
+use fx_base::{Bytes, NoMemory, Spot};
+use fx_io::{Sink, Source, WholeEnd, read_whole};
+use fx_script::{Job, ReadJob, read_job};
+use fx_text::push_number;
+use std::alloc::Global;
+
+/// The most bytes that a job may have.
+const LONGEST_JOB: usize = 1_048_576;
+
+/// Runs the program: from its words and what the source holds to what the sink gets.
+///
+/// The one word that it knows is `run`. The source is read to its end, and the text must spell a job that can be
+/// run; then the journal of its run is written, each line as one piece with its line end. A refusal is one line.
+pub fn fenix<S: Source, K: Sink>(
+    alloc: Global,
+    words: &[String],
+    source: &mut S,
+    sink: &mut K,
+) -> Status
+    // What was read and written, by the status.
+    ensures ends { Ends (map string_bytes words.now) (S.left source.old) (S.left source.new) (K.written sink.old) (K.written sink.new) result }
+    // Done: the source held a text of a job that can be run, and the text of a legal journal of it was written.
+    ensures done_is_a_run { result ≡ Status.Done → IsRun (S.left source.old) (S.left source.new) (K.written sink.old) (K.written sink.new) }
+    // Where the source tells what it holds, that and the words fix the status, unless a fault or want of memory cuts the call short.
+    ensures status_is_due { (held : List ℕ) → S.left source.old ≡ Some held → IsUnlessCut (due_to (input_of (map string_bytes words.now) held)).status result }
+    // A text that is read as a job that can be run is answered by its run, unless the call is cut short.
+    ensures jobs_are_run { (held : List ℕ) (job : Job) → are_run (map string_bytes words.now) ≡ true → S.left source.old ≡ Some held → length held ≤ longest_job → job_in held ≡ Ok job → first_unbuilt job ≡ None → IsUnlessCut Status.Done result }
+    ensures read_fault_only_if_count_rose { result ≡ Status.ReadFault → Rose (S.faults source.old) (S.faults source.new) }
+    ensures write_fault_only_if_count_rose { result ≡ Status.WriteFault → Rose (K.faults sink.old) (K.faults sink.new) }
+    ensures source_count_never_falls { S.faults source.old ≤ S.faults source.new }
+    ensures sink_count_never_falls { K.faults sink.old ≤ K.faults sink.new }
+{
+    call(alloc, words, source, sink)
+}
+
+fn call<S: Source, K: Sink>(alloc: Global, words: &[String], source: &mut S, sink: &mut K) -> Status
+    ensures ends { Ends (map string_bytes words.now) (S.left source.old) (S.left source.new) (K.written sink.old) (K.written sink.new) result }
+    ensures read_fault_only_if_count_rose { result ≡ Status.ReadFault → Rose (S.faults source.old) (S.faults source.new) }
+    ensures write_fault_only_if_count_rose { result ≡ Status.WriteFault → Rose (K.faults sink.old) (K.faults sink.new) }
+    ensures source_count_never_falls { S.faults source.old ≤ S.faults source.new }
+    ensures sink_count_never_falls { K.faults sink.old ≤ K.faults sink.new }
+{
+    if !are_run(words) {
+        return refuse_words(sink);
+    }
+    match read_whole(alloc, source, LONGEST_JOB) {
+        Ok(text) => answer(alloc, text.as_slice(), sink),
+        Err(WholeEnd::TooLong) => refuse(alloc, Refusal::TooBig, Spot { line: 1, column: 1 }, sink),
+        Err(WholeEnd::Failed) => Status::ReadFault,
+        Err(WholeEnd::NoMemory) => Status::NoMemory,
+    }
+}
+
+fn are_run(words: &[String]) -> bool
+    ensures { result ≡ are_run (map string_bytes words.now) }
+{
+    match words {
+        [word] => word.as_str() == "run",
+        _ => false,
+    }
+}
+
+// Answers a whole text.
+fn answer<K: Sink>(alloc: Global, text: &[u8], sink: &mut K) -> Status
+    requires { length text.now ≤ longest_job }
+    ensures { Settles (due_to_reading (job_in text.now)) (K.written sink.old) (K.written sink.new) (K.faults sink.old) (K.faults sink.new) result }
+{
+    match read_job(alloc, text) {
+        Ok(job) => run(alloc, &job, sink),
+        Err(ReadJob::Refused(fault, spot)) => refuse(alloc, Refusal::Text(fault), spot, sink),
+        Err(ReadJob::NoMemory) => Status::NoMemory,
+    }
+}
+
+// Runs a job, or refuses it at its first line that can't be run.
+fn run<K: Sink>(alloc: Global, job: &Job, sink: &mut K) -> Status
+    ensures { Settles (due_to_job job.now (first_unbuilt job.now)) (K.written sink.old) (K.written sink.new) (K.faults sink.old) (K.faults sink.new) result }
+{
+    match first_unbuilt(job) {
+        Some(spot) => refuse(alloc, Refusal::NotBuilt, spot, sink),
+        None => settled(write_journal(alloc, job, sink), Status::Done),
+    }
+}
+
+// Writes the line for words that aren't the one word `run`.
+fn refuse_words<K: Sink>(sink: &mut K) -> Status
+    ensures { Settles (due_to WrongWords) (K.written sink.old) (K.written sink.new) (K.faults sink.old) (K.faults sink.new) result }
+{
+    settled(put_line(sink, b"fenix: bad words\n"), Status::BadWords)
+}
+
+// Writes the line of a refusal.
+fn refuse<K: Sink>(alloc: Global, refusal: Refusal, spot: Spot, sink: &mut K) -> Status
+    ensures { Settles (due_refusal refusal spot) (K.written sink.old) (K.written sink.new) (K.faults sink.old) (K.faults sink.new) result }
+{
+    match refusal_line(alloc, refusal, spot) {
+        Ok(line) => settled(
+            put_line(sink, line.as_slice()),
+            Status::BadJob(refusal, spot),
+        ),
+        Err(_) => Status::NoMemory,
+    }
+}
+
+fn refusal_line(alloc: Global, refusal: Refusal, spot: Spot) -> Result<Bytes, NoMemory>
+    ensures { IfOk result (λ line. line ≡ refusal_line refusal spot) }
+{
+    let mut line = Bytes::new(alloc);
+    line.append(b"fenix: bad job: ")?;
+    line.append(reason_of(refusal))?;
+    line.append(b" at ")?;
+    push_number(&mut line, i64::from(spot.line))?;
+    line.push(b':')?;
+    push_number(&mut line, i64::from(spot.column))?;
+    line.push(b'\n')?;
+    Ok(line)
+}
+
+// The status of a call that has written what is due, or was cut short.
+fn settled(put: Result<(), Cut>, status: Status) -> Status
+    ensures { result ≡ settled put status }
+{
+    match put {
+        Ok(()) => status,
+        Err(Cut::WriteFault) => Status::WriteFault,
+        Err(Cut::NoMemory) => Status::NoMemory,
+    }
+}
