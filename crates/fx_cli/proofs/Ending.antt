@@ -4,7 +4,9 @@ use Rattle.std.proofs.lemmas.List.{append-nil}
 use Rattle.fx_base.specs.declared.spot.Spot.{Spot}
 use Rattle.fx_io.specs.Told.{Loses, IsAtEnd, Gains}
 use Rattle.fx_script.specs.declared.job.Job.{Job}
-use Rattle.fx_script.specs.Reading.{Refusal, job_in}
+use Rattle.fx_script.specs.Reading.{Refusal, reading, job_in}
+use Rattle.fx_script.specs.Spelling.{Spells}
+use Rattle.fx_script.proofs.Spelled.{is_read, job_found}
 use Rattle.fx_cli.specs.declared.status.Status.{Status}
 use Rattle.fx_cli.specs.declared.status.Status.TheVariants.{Done, BadWords, BadJob, ReadFault, WriteFault, NoMemory}
 use Rattle.fx_cli.specs.Built.{first_unbuilt, plan_of}
@@ -34,7 +36,7 @@ job_run left left' written written' text job None is built short read end done g
   read = read;
   at_end = end;
   short = short;
-  read_as = is;
+  spelled = job_found text (reading text) job refl is;
   built = built;
   legal = is_legal (plan_of job);
   gained = gained;
@@ -124,6 +126,6 @@ done_due words held job run short read built =
 
 pub is_ran : (words : List (List ℕ)) (left left' written written' : Option (List ℕ)) (s : Status) →
     Ends words left left' written written' s → (held : List ℕ) (job : Job) → are_run words ≡ true → left ≡ Some held →
-    length held ≤ longest_job → job_in held ≡ Ok job → first_unbuilt job ≡ None → IsUnlessCut Done s
-is_ran words left left' written written' s e held job run told short read built =
-    subst (λ (due : Status). IsUnlessCut due s) (done_due words held job run short read built) (is_due words left left' written written' s e held told)
+    length held ≤ longest_job → Spells held job → first_unbuilt job ≡ None → IsUnlessCut Done s
+is_ran words left left' written written' s e held job run told short spelled built =
+    subst (λ (due : Status). IsUnlessCut due s) (done_due words held job run short (is_read held job spelled) built) (is_due words left left' written written' s e held told)

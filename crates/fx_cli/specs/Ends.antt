@@ -4,7 +4,7 @@ use Rattle.fx_io.specs.Faults.{Rose}
 use Rattle.fx_io.specs.Reading.{Came}
 use Rattle.fx_io.specs.Told.{Loses, IsAtEnd, Gains, GainsFront}
 use Rattle.fx_script.specs.declared.job.Job.{Job}
-use Rattle.fx_script.specs.Reading.{job_in}
+use Rattle.fx_script.specs.Spelling.{Spells}
 use Rattle.fx_cli.specs.declared.item.Item.{Item}
 use Rattle.fx_cli.specs.declared.put.Cut.{Cut}
 use Rattle.fx_cli.specs.declared.put.Cut.TheVariants as cut
@@ -55,8 +55,8 @@ Ends words left left' written written' WriteFault = AnsweredInPart words left le
 Ends words left left' written written' NoMemory =
     AnsweredInPart words left left' written written' ⊎ StoppedReading words left left' written written'
 
--- the run of a job: the source is read to its end, its text is read as the job, each line of which can be run, and the
--- text of a legal journal was written
+-- the run of a job: the source is read to its end, its text spells the job, each line of which can be run, and the text
+-- of a legal journal was written
 pub record IsRun (left left' written written' : Option (List ℕ)) : Type 0 where
   pub text : List ℕ
   pub job : Job
@@ -64,7 +64,7 @@ pub record IsRun (left left' written written' : Option (List ℕ)) : Type 0 wher
   pub read : Loses left left' text
   pub at_end : IsAtEnd left'
   pub short : length text ≤ longest_job
-  pub read_as : job_in text ≡ Ok job
+  pub spelled : Spells text job
   pub built : first_unbuilt job ≡ None
   pub legal : IsLegal (plan_of job) journal
   pub gained : Gains written written' (text_of journal)

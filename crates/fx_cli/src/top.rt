@@ -1,6 +1,7 @@
 ghost use Rattle.std.specs.Prelude.{◌≡◌, ◌≤◌, ℕ, List, IfOk, None, Ok, Some, length, map, string_bytes, true};
 ghost use Rattle.fx_io.specs.Faults.{Rose};
 ghost use Rattle.fx_script.specs.Reading.{job_in};
+ghost use Rattle.fx_script.specs.Spelling.{Spells};
 ghost use Rattle.fx_cli.specs.Answers.{refusal_line};
 ghost use Rattle.fx_cli.specs.Built.{first_unbuilt};
 ghost use Rattle.fx_cli.specs.Dues.{WrongWords, are_run, due_refusal, due_to, due_to_job, due_to_reading, input_of, longest_job};
@@ -35,8 +36,8 @@ pub fn fenix<S: Source, K: Sink>(
     ensures done_is_a_run { result ≡ Status.Done → IsRun (S.left source.old) (S.left source.new) (K.written sink.old) (K.written sink.new) }
     // Where the source tells what it holds, that and the words fix the status, unless a fault or want of memory cuts the call short.
     ensures status_is_due { (held : List ℕ) → S.left source.old ≡ Some held → IsUnlessCut (due_to (input_of (map string_bytes words.now) held)).status result }
-    // A text that is read as a job that can be run is answered by its run, unless the call is cut short.
-    ensures jobs_are_run { (held : List ℕ) (job : Job) → are_run (map string_bytes words.now) ≡ true → S.left source.old ≡ Some held → length held ≤ longest_job → job_in held ≡ Ok job → first_unbuilt job ≡ None → IsUnlessCut Status.Done result }
+    // A text that spells a job that can be run is answered by its run, unless the call is cut short.
+    ensures jobs_are_run { (held : List ℕ) (job : Job) → are_run (map string_bytes words.now) ≡ true → S.left source.old ≡ Some held → length held ≤ longest_job → Spells held job → first_unbuilt job ≡ None → IsUnlessCut Status.Done result }
     ensures read_fault_only_if_count_rose { result ≡ Status.ReadFault → Rose (S.faults source.old) (S.faults source.new) }
     ensures write_fault_only_if_count_rose { result ≡ Status.WriteFault → Rose (K.faults sink.old) (K.faults sink.new) }
     ensures source_count_never_falls { S.faults source.old ≤ S.faults source.new }
