@@ -14,3 +14,4 @@ pub mod Moves
 pub mod Reading
 pub mod Answers
 pub mod Spelling
+pub mod Rows
