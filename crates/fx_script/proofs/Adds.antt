@@ -1,8 +1,8 @@
 -- Each line that was read is added to the lines of the draft.
-use Rattle.std.proofs.Common.{◌≡◌, ℕ, zero, suc, ◌+◌, ◌<◌, Bool, true, false, ◌&&◌, eqb, List, [], ◌∷◌, ◌++◌, length, Option, Some, None, refl, sym, ap, subst, ◌∙◌, append_assoc, arith, inl, inr}
-use Rattle.std.specs.Prelude.{ℤ, map, codes}
+use Rattle.std.proofs.Common.{◌≡◌, ℕ, zero, suc, ◌+◌, ◌<◌, Bool, true, ◌&&◌, eqb, List, [], ◌∷◌, ◌++◌, length, Some, None, refl, sym, ap, subst, ◌∙◌, append_assoc, arith}
+use Rattle.std.specs.Prelude.{map, codes}
 use Rattle.std.specs.List.{list_all}
-use Rattle.std.proofs.lemmas.Bool.{and_from, and_parts, eqb-true, ltb-true}
+use Rattle.std.proofs.lemmas.Bool.{and_from, eqb-true, ltb-true}
 use Rattle.std.proofs.lemmas.List.{append-nil, map-append, nil_from_length}
 use Rattle.std.proofs.lemmas.List.Folds.{list_all-append, list_all-map}
 use Rattle.fx_base.specs.declared.spot.Spot.{Spot}
@@ -23,13 +23,13 @@ use Rattle.fx_script.specs.declared.job.Stmt.{Stmt}
 use Rattle.fx_script.specs.declared.job.Stmt.TheOpen.{Stmt-F}
 use Rattle.fx_script.specs.declared.job.Stmt.TheVariants as stmt
 use Rattle.fx_script.specs.Exprs.{is_writable_expr}
-use Rattle.fx_script.specs.Moves.{part_moved, edge_moved, closed_block}
+use Rattle.fx_script.specs.Moves.{part_moved, edge_moved}
 use Rattle.fx_script.specs.Names.{is_name}
 use Rattle.fx_script.specs.Spelling.{Entry, kept_at, anywhere, chained, stmt_entries, stmts_entries, callback_entries, event_words, event_entry, stmt_fits, stmts_fit, decl_fits, callback_fits, event_fits}
 use Rattle.fx_script.specs.Stands.{part_stands, edge_stands, is_inside, is_scheduled}
 use Rattle.fx_script.proofs.HeadLemmas.{part_word_in, part_fits, edge_word_in, edge_fits}
 use Rattle.fx_script.proofs.SimpleLemmas.{stmt_spelling, stmt_writing}
-use Rattle.fx_script.proofs.SoFar.{part_line, edge_line, block_lines, open_lines, inner, named, called, begun, lines_before, so_far, IsTidy, JobFits, BlockFits, BlocksFit, OpenFits, IsFine}
+use Rattle.fx_script.proofs.SoFar.{part_line, edge_line, block_lines, open_lines, inner, named, called, begun, so_far, BlockFits, BlocksFit, OpenFits, IsFine}
 
 -- one line more
 pub record Adds (d next : Draft) (e : Entry) : Type 0 where

@@ -1,12 +1,10 @@
 -- What a text spells is read from it.
-use Rattle.std.proofs.Common.{◌≡◌, ℕ, zero, suc, ◌+◌, ◌<◌, Bool, true, false, cond, ltb, ◌&&◌, List, [], ◌∷◌, ◌++◌, length, Option, Some, None, Result, Ok, Err, refl, sym, ap, subst, ◌∙◌, append_assoc, arith, inl, inr}
-use Rattle.std.specs.Prelude.{ℤ, pos, map, codes, IfSome}
-use Rattle.std.specs.Fmt.{signed_decimal}
+use Rattle.std.proofs.Common.{◌≡◌, ℕ, zero, suc, ◌+◌, Bool, true, false, ltb, ◌&&◌, List, [], ◌∷◌, ◌++◌, length, Option, Some, None, Result, Ok, refl, sym, ap, subst, ◌∙◌, append_assoc, arith}
+use Rattle.std.specs.Prelude.{ℤ, map, codes}
 use Rattle.std.specs.List.{AllByRecursion, list_all}
 use Rattle.std.proofs.lemmas.Bool.{and_from, and_parts, lt-ltb}
 use Rattle.std.proofs.lemmas.List.{append-nil}
 use Rattle.std.proofs.lemmas.List.Folds.{list_all-map}
-use Rattle.fx_base.specs.declared.names.Op.{Op}
 use Rattle.fx_base.specs.declared.names.Op.TheVariants as op
 use Rattle.fx_base.specs.declared.spot.Spot.{Spot}
 use Rattle.fx_text.specs.Lines.{Line}
@@ -37,30 +35,26 @@ use Rattle.fx_script.specs.declared.job.Stmt.TheVariants as stmt
 use Rattle.fx_script.specs.declared.job.Stmt.TheOpen.{Stmt-F}
 use Rattle.fx_script.specs.declared.job.Stmt.TheViews.{roll-Stmt}
 use Rattle.fx_script.specs.declared.job.Stmt.TheFolds.{map-Stmt, ind-Stmt}
-use Rattle.fx_script.specs.declared.keyword.EdgeWord.{EdgeWord}
 use Rattle.fx_script.specs.declared.keyword.EdgeWord.TheVariants as edge_word
-use Rattle.fx_script.specs.declared.keyword.EventWord.{EventWord}
 use Rattle.fx_script.specs.declared.keyword.EventWord.TheVariants as event_word
 use Rattle.fx_script.specs.declared.keyword.Keyword.{Keyword}
 use Rattle.fx_script.specs.declared.keyword.Keyword.TheVariants as k
 use Rattle.fx_script.specs.declared.keyword.PartWord.{PartWord}
 use Rattle.fx_script.specs.declared.keyword.PartWord.TheVariants as part_word
-use Rattle.fx_script.specs.declared.keyword.SimpleWord.{SimpleWord}
 use Rattle.fx_script.specs.declared.keyword.SimpleWord.TheVariants as simple_word
 use Rattle.fx_script.specs.declared.refusal.Wrong.{Wrong}
 use Rattle.fx_script.specs.Left.{Left}
 use Rattle.fx_script.specs.Exprs.{is_writable_expr}
-use Rattle.fx_script.specs.Heads.{part_at, edge_at, event_at, head_at}
+use Rattle.fx_script.specs.Heads.{head_at}
 use Rattle.fx_script.specs.Keywords.{part_text, edge_text, simple_text, event_text, text_of, keyword_of}
 use Rattle.fx_script.specs.Moves.{empty_draft, empty_job, no_callback, part_moved, edge_moved, moved}
 use Rattle.fx_script.specs.Names.{is_name}
-use Rattle.fx_script.specs.Reading.{Met, Refusal, met_in, spot_of, sound, head_placed, head_in, taken, line_taken, at_line, finished, and_then, run}
-use Rattle.fx_script.specs.Spelling.{Entry, kept_at, anywhere, chained, bytes_of, words_in, IsLine, AreLines, if_met, met_from, IsSound, event_words, event_fits, stmt_entries, stmts_entries, opening_fits, stmt_fits_level, stmt_fits, stmts_fit, decl_entry, decl_fits, callback_entries, callback_fits, event_entry, heading, job_entries, IsWritable}
+use Rattle.fx_script.specs.Reading.{Met, met_in, spot_of, sound, head_placed, head_in, taken, run}
+use Rattle.fx_script.specs.Spelling.{Entry, kept_at, anywhere, chained, words_in, IsLine, AreLines, if_met, met_from, IsSound, event_words, event_fits, stmt_entries, stmts_entries, opening_fits, stmt_fits_level, stmt_fits, stmts_fit, decl_entry, decl_fits, callback_entries, callback_fits, event_entry, heading, job_entries, IsWritable}
 use Rattle.fx_script.specs.Stands.{may_stand, is_inside, is_scheduled, part_stands, edge_stands}
-use Rattle.fx_script.specs.Statements.{simple_at}
 use Rattle.fx_script.proofs.SoFar.{part_line, edge_line}
 use Rattle.fx_script.proofs.Adds.{dr}
-use Rattle.fx_script.proofs.FieldLemmas.{texts, Behind, end_again}
+use Rattle.fx_script.proofs.FieldLemmas.{texts, end_again}
 use Rattle.fx_script.proofs.HeadLemmas.{part_word_in, part_fields, part_fits, part_again, edge_word_in, edge_fields, edge_fits, edge_again, event_word_in, event_fields, event_again, event_words_is}
 use Rattle.fx_script.proofs.SimpleLemmas
 

@@ -1,21 +1,21 @@
 -- An expression that was read is spelled by its words, and words that spell an expression are read as it.
-use Rattle.std.proofs.Common.{◌≡◌, ℕ, zero, suc, ◌+◌, ◌^◌, ◌<◌, ◌≤◌, Bool, true, false, not, cond, eqb, ltb, leb, ◌&&◌, ◌||◌, ◌⊎◌, List, [], ◌∷◌, ◌++◌, length, get_or, Result, Ok, Err, refl, sym, ap, subst, ◌∙◌, append_assoc, arith, inl, inr}
+use Rattle.std.proofs.Common.{◌≡◌, ℕ, suc, ◌^◌, ◌<◌, ◌≤◌, Bool, true, false, not, cond, eqb, ltb, leb, ◌&&◌, ◌||◌, List, [], ◌∷◌, ◌++◌, length, Result, Ok, Err, refl, sym, ap, subst, ◌∙◌, append_assoc, arith, inl, inr}
 use Rattle.std.specs.Prelude.{ℤ, pos, negsuc, map, codes}
 use Rattle.std.specs.Fmt.{decimal, signed_decimal}
 use Rattle.std.specs.List.{list_all}
 use Rattle.std.specs.Str.{bytes_eq}
-use Rattle.std.proofs.lemmas.Bool.{cases_Bool, and_from, and_parts, or_parts, or_left, or_right, not_from_true, eqb-true, eq-eqb, ne_eqb, lt-ltb, ltb-true, leb-true, le-leb, lt-leb, and_left}
+use Rattle.std.proofs.lemmas.Bool.{cases_Bool, and_from, and_parts, or_parts, or_left, eqb-true, ne_eqb, lt-ltb, ltb-true, leb-true, le-leb, lt-leb, and_left}
 use Rattle.std.proofs.lemmas.Fmt.{decimal_nonempty, decimal_is_IsNumeral}
 use Rattle.std.proofs.lemmas.Str.Parse.{digit_from_value}
 use Rattle.std.specs.Str.Parse.{IsNumeral}
-use Rattle.fx_text.specs.Numbers.{is_digit, fits_64, number_in}
+use Rattle.fx_text.specs.Numbers.{is_digit, fits_64}
 use Rattle.fx_text.specs.Words.{Word}
 use Rattle.fx_text.proofs.NumberLemmas.{number_again}
 use Rattle.fx_script.specs.declared.expr.Expr.{Expr}
 use Rattle.fx_script.specs.declared.expr.Expr.TheVariants as expr
 use Rattle.fx_script.specs.declared.expr.Expr.TheOpen.{Expr-F}
 use Rattle.fx_script.specs.declared.expr.Expr.TheViews.{roll-Expr}
-use Rattle.fx_script.specs.declared.expr.Expr.TheFolds.{fold-Expr, fold-roll-Expr, map-Expr, ind-Expr}
+use Rattle.fx_script.specs.declared.expr.Expr.TheFolds.{fold-roll-Expr, map-Expr, ind-Expr}
 use Rattle.fx_script.specs.declared.expr.Pending.{Pending}
 use Rattle.fx_script.specs.declared.expr.Pending.TheVariants as pending
 use Rattle.fx_script.specs.declared.expr.Sign.{Sign}
@@ -29,7 +29,7 @@ use Rattle.fx_script.specs.Left.{Left}
 use Rattle.fx_script.specs.Names.{is_name, is_letter, begins_with_letter, is_reserved, is_letter_or_digit}
 use Rattle.fx_script.specs.Outcome.{◌>>=◌}
 use Rattle.fx_script.specs.Exprs.{sign_text, words_of_level, expr_words, writable_level, is_writable_expr, joined, is_meant_as_number, operand_in, token_in, settled, taken_token, stepped, goes_on, expr_run, expr_at}
-use Rattle.fx_script.specs.Fields.{misfit, number_or, number_in_word}
+use Rattle.fx_script.specs.Fields.{misfit, number_in_word}
 use Rattle.fx_script.specs.Spelling.{bytes_of}
 use Rattle.fx_script.proofs.FieldLemmas.{bind_ok, ok_is, texts, Behind, number_word_found, chosen, is_text}
 

@@ -1,12 +1,12 @@
 -- Reading the words of an expression one after another, as a loop does.
-use Rattle.std.proofs.Common.{◌≡◌, ℕ, Bool, true, false, List, [], ◌∷◌, Result, Ok, Err, refl, sym, ap, ◌∙◌}
+use Rattle.std.proofs.Common.{◌≡◌, ℕ, Bool, List, [], ◌∷◌, Result, Ok, refl, ap}
 use Rattle.fx_text.specs.Words.{Word}
 use Rattle.fx_script.specs.declared.expr.Pending.{Pending}
 use Rattle.fx_script.specs.declared.refusal.Stop.{Stop}
 use Rattle.fx_script.specs.declared.refusal.Stop.TheVariants as stop
 use Rattle.fx_script.specs.declared.refusal.Wrong.{Wrong}
 use Rattle.fx_script.specs.Left.{Left}
-use Rattle.fx_script.specs.Outcome.{◌>>=◌, Stops}
+use Rattle.fx_script.specs.Outcome.{Stops}
 use Rattle.fx_script.specs.Exprs.{stepped, expr_run}
 use Rattle.fx_script.specs.Fields.{first_of, due}
 

@@ -20,7 +20,7 @@ use Rattle.fx_script.specs.declared.refusal.Wrong.{Wrong}
 use Rattle.fx_script.specs.Left.{Left}
 use Rattle.fx_script.specs.Outcome.{◌>>=◌}
 use Rattle.fx_script.specs.Names.{is_name}
-use Rattle.fx_script.specs.Fields.{misfit, first_of, fixed_in, fixed_at, name_in, name_at, number_or, number_in_word, number_at, role_in, role_at, test_in, test_at, pair_at, pairs_from, pairs_at, strided_at, ranges_at, picked_in, picked_at, none_of, end_at}
+use Rattle.fx_script.specs.Fields.{misfit, fixed_at, name_at, number_or, number_in_word, number_at, role_at, test_at, pair_at, pairs_from, none_of, end_at}
 use Rattle.fx_script.specs.Spelling.{bytes_of, role_text, test_text, pair_fits, pairs_words}
 
 -- the value of a reading that went well

@@ -1,6 +1,5 @@
 -- What is read is spelled by its text.
-use Rattle.std.proofs.Common.{◌≡◌, ℕ, ◌+◌, Bool, true, false, cond, ◌&&◌, List, [], ◌∷◌, ◌++◌, Option, Some, None, Result, Ok, Err, refl, sym, ap, subst, ◌∙◌, append_assoc, inl, inr}
-use Rattle.std.specs.Prelude.{ℤ, map, codes, IfSome}
+use Rattle.std.proofs.Common.{◌≡◌, ℕ, ◌+◌, Bool, true, ◌&&◌, List, [], ◌∷◌, ◌++◌, Option, Some, None, Result, Ok, Err, refl, sym, ap, subst, ◌∙◌, append_assoc, inl, inr}
 use Rattle.std.specs.List.{AllByRecursion, find}
 use Rattle.std.specs.Str.{bytes_eq}
 use Rattle.std.proofs.lemmas.Bool.{cases_Bool, and_parts}
@@ -31,11 +30,11 @@ use Rattle.fx_script.specs.declared.refusal.Wrong.{Wrong}
 use Rattle.fx_script.specs.Outcome.{◌>>=◌}
 use Rattle.fx_script.specs.Left.{Left}
 use Rattle.fx_script.specs.Fields.{misfit, end_at}
-use Rattle.fx_script.specs.Heads.{part_at, edge_at, event_at, fields_at, head_at}
+use Rattle.fx_script.specs.Heads.{part_at, edge_at, event_at, head_at}
 use Rattle.fx_script.specs.Keywords.{part_text, edge_text, simple_text, event_text, text_of, keywords, keyword_of}
 use Rattle.fx_script.specs.Moves.{moved}
 use Rattle.fx_script.specs.Reading.{Met, Refusal, met_in, spot_of, sound, head_placed, head_in, taken, line_taken, at_line, finished, and_then, run}
-use Rattle.fx_script.specs.Spelling.{Entry, kept_at, event_words, bytes_of, words_in, IsLine, AreLines, if_met, met_from, IsSound}
+use Rattle.fx_script.specs.Spelling.{Entry, kept_at, event_words, words_in, IsLine, AreLines, if_met, met_from, IsSound}
 use Rattle.fx_script.specs.Stands.{may_stand, is_inside, is_scheduled, part_stands, edge_stands}
 use Rattle.fx_script.specs.Statements.{simple_at}
 use Rattle.fx_script.proofs.SoFar.{so_far, part_line, edge_line, IsFine}

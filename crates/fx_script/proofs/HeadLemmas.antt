@@ -1,10 +1,8 @@
 -- A line between the parts of a job, at the edge of a block, or of an event is spelled by its words, and words that spell one are read as it.
-use Rattle.std.proofs.Common.{◌≡◌, ℕ, Bool, true, false, ◌&&◌, List, [], ◌∷◌, ◌++◌, Result, Ok, Err, refl, sym, ap, subst, ◌∙◌, append_assoc}
-use Rattle.std.specs.Prelude.{ℤ, map, codes}
+use Rattle.std.proofs.Common.{◌≡◌, ℕ, Bool, true, ◌&&◌, List, [], ◌∷◌, ◌++◌, Ok, refl, sym, ap, subst, ◌∙◌, append_assoc}
+use Rattle.std.specs.Prelude.{codes}
 use Rattle.std.specs.Fmt.{signed_decimal}
 use Rattle.std.proofs.lemmas.Bool.{and_from, and_parts}
-use Rattle.std.proofs.lemmas.List.{append-nil}
-use Rattle.fx_base.specs.declared.spot.Spot.{Spot}
 use Rattle.fx_text.specs.Numbers.{fits_64}
 use Rattle.fx_script.specs.declared.head.EdgeHead.{EdgeHead}
 use Rattle.fx_script.specs.declared.head.EdgeHead.TheVariants as edge
@@ -18,15 +16,14 @@ use Rattle.fx_script.specs.declared.keyword.EventWord.{EventWord}
 use Rattle.fx_script.specs.declared.keyword.EventWord.TheVariants as event_word
 use Rattle.fx_script.specs.declared.keyword.PartWord.{PartWord}
 use Rattle.fx_script.specs.declared.keyword.PartWord.TheVariants as part_word
-use Rattle.fx_script.specs.declared.refusal.Wrong.{Wrong}
 use Rattle.fx_script.specs.Left.{Left}
 use Rattle.fx_script.specs.Outcome.{◌>>=◌}
 use Rattle.fx_script.specs.Exprs.{expr_words, is_writable_expr, expr_at}
 use Rattle.fx_script.specs.Fields.{fixed_at, name_at, number_at, role_at, test_at}
 use Rattle.fx_script.specs.Heads.{part_at, edge_at, event_at}
-use Rattle.fx_script.specs.Keywords.{part_text, edge_text, event_text}
+use Rattle.fx_script.specs.Keywords.{event_text}
 use Rattle.fx_script.specs.Names.{is_name}
-use Rattle.fx_script.specs.Spelling.{Entry, kept_at, anywhere, role_text, test_text, event_words, event_fits}
+use Rattle.fx_script.specs.Spelling.{role_text, test_text, event_words, event_fits}
 use Rattle.fx_script.proofs.FieldLemmas.{bind_ok, ok_is, texts, Behind, fixed_found, fixed_again, name_found, number_found, name_again, number_read_again, role_found, role_again, test_found, test_again}
 use Rattle.fx_script.proofs.ExprLemmas.{expr_found, expr_again}
 

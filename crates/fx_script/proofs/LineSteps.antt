@@ -1,6 +1,5 @@
 -- What one line does to a draft.
-use Rattle.std.proofs.Common.{◌≡◌, ℕ, ◌+◌, Bool, true, false, List, [], ◌∷◌, length, Some, Result, Ok, Err, refl}
-use Rattle.std.specs.Prelude.{◌==◌}
+use Rattle.std.proofs.Common.{◌≡◌, ℕ, ◌+◌, false, ◌∷◌, length, Some, Ok, refl}
 use Rattle.fx_text.specs.Lines.{Line}
 use Rattle.fx_text.specs.Words.{Word, words_of}
 use Rattle.fx_script.specs.declared.draft.Draft.{Draft}

@@ -1,11 +1,10 @@
 -- Reading pairs one after another, as a loop does.
-use Rattle.std.proofs.Common.{◌≡◌, ℕ, zero, suc, ◌+◌, ◌-◌, ◌<◌, ◌≤◌, Bool, true, false, eqb, List, [], ◌∷◌, ◌++◌, length, Result, Ok, Err, refl, sym, ap, ◌∙◌, arith}
+use Rattle.std.proofs.Common.{◌≡◌, ℕ, zero, suc, ◌+◌, ◌-◌, ◌<◌, ◌≤◌, true, false, eqb, List, [], ◌∷◌, ◌++◌, length, Ok, refl, arith}
 use Rattle.std.specs.Prelude.{ℤ}
 use Rattle.fx_script.specs.declared.refusal.Stop.{Stop}
 use Rattle.fx_script.specs.declared.refusal.Stop.TheVariants as stop
-use Rattle.fx_script.specs.declared.refusal.Wrong.{Wrong}
 use Rattle.fx_script.specs.Left.{Left}
-use Rattle.fx_script.specs.Outcome.{◌>>=◌, Stops}
+use Rattle.fx_script.specs.Outcome.{Stops}
 use Rattle.fx_script.specs.Fields.{pair_at, pairs_from}
 
 -- no word is left

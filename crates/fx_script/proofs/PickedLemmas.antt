@@ -1,6 +1,6 @@
 -- A subset that was read is spelled by its words, and words that spell one are read as it.
-use Rattle.std.proofs.Common.{◌≡◌, ℕ, ◌+◌, ◌≤◌, Bool, true, false, cond, ◌&&◌, leb, List, [], ◌∷◌, ◌++◌, length, Result, Ok, Err, refl, sym, ap, subst, ◌∙◌, length-append, arith, inl, inr}
-use Rattle.std.specs.Prelude.{ℤ, map, codes}
+use Rattle.std.proofs.Common.{◌≡◌, ℕ, true, ◌&&◌, leb, List, [], ◌∷◌, ◌++◌, length, Ok, Err, refl, ap, subst, ◌∙◌, arith, inl, inr}
+use Rattle.std.specs.Prelude.{map, codes}
 use Rattle.std.specs.Fmt.{signed_decimal}
 use Rattle.std.specs.List.{list_all}
 use Rattle.std.specs.Str.{bytes_eq}
@@ -9,10 +9,9 @@ use Rattle.fx_text.specs.Numbers.{fits_64}
 use Rattle.fx_text.specs.Words.{Word}
 use Rattle.fx_script.specs.declared.job.Picked.{Picked}
 use Rattle.fx_script.specs.declared.job.Picked.TheVariants as picked
-use Rattle.fx_script.specs.declared.refusal.Wrong.{Wrong}
 use Rattle.fx_script.specs.Left.{Left}
 use Rattle.fx_script.specs.Outcome.{◌>>=◌}
-use Rattle.fx_script.specs.Fields.{misfit, number_at, pair_at, pairs_from, pairs_at, strided_at, ranges_at, picked_in, picked_at}
+use Rattle.fx_script.specs.Fields.{misfit, number_at, pair_at, pairs_from, pairs_at, strided_at, ranges_at, picked_at}
 use Rattle.fx_script.specs.Spelling.{bytes_of, pair_fits, pairs_words, picked_words, picked_fits}
 use Rattle.fx_script.proofs.FieldLemmas.{bind_ok, ok_is, chosen, front, texts, Behind, number_found, number_read_again, pair_found, pair_again, pairs_found, pairs_again}
 

@@ -1,10 +1,9 @@
 -- A statement without a block is spelled by its words, and words that spell one are read as it.
-use Rattle.std.proofs.Common.{◌≡◌, ℕ, Bool, true, false, ◌&&◌, List, [], ◌∷◌, ◌++◌, Result, Ok, Err, refl, sym, ap, subst, ◌∙◌, append_assoc}
-use Rattle.std.specs.Prelude.{ℤ, map, codes}
+use Rattle.std.proofs.Common.{◌≡◌, ℕ, Bool, true, ◌&&◌, List, [], ◌∷◌, ◌++◌, Ok, refl, sym, ap, subst, ◌∙◌}
+use Rattle.std.specs.Prelude.{ℤ}
 use Rattle.std.specs.Fmt.{signed_decimal}
 use Rattle.std.proofs.lemmas.Bool.{and_from, and_parts}
 use Rattle.std.proofs.lemmas.List.{append-nil}
-use Rattle.fx_base.specs.declared.names.Op.{Op}
 use Rattle.fx_base.specs.declared.names.Op.TheVariants as op
 use Rattle.fx_base.specs.declared.spot.Spot.{Spot}
 use Rattle.fx_text.specs.Numbers.{fits_64}
@@ -14,10 +13,9 @@ use Rattle.fx_script.specs.declared.job.Stmt.{Stmt}
 use Rattle.fx_script.specs.declared.job.Stmt.TheVariants as stmt
 use Rattle.fx_script.specs.declared.job.Stmt.TheOpen.{Stmt-F}
 use Rattle.fx_script.specs.declared.job.Stmt.TheViews.{roll-Stmt}
-use Rattle.fx_script.specs.declared.job.Stmt.TheFolds.{fold-Stmt, fold-roll-Stmt, map-Stmt}
+use Rattle.fx_script.specs.declared.job.Stmt.TheFolds.{fold-roll-Stmt, map-Stmt}
 use Rattle.fx_script.specs.declared.keyword.SimpleWord.{SimpleWord}
 use Rattle.fx_script.specs.declared.keyword.SimpleWord.TheVariants as word
-use Rattle.fx_script.specs.declared.refusal.Wrong.{Wrong}
 use Rattle.fx_script.specs.Left.{Left}
 use Rattle.fx_script.specs.Outcome.{◌>>=◌}
 use Rattle.fx_script.specs.Exprs.{expr_words, is_writable_expr, expr_at}

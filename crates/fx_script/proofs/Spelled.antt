@@ -1,5 +1,5 @@
 -- A text spells the job that is read from it, and no other.
-use Rattle.std.proofs.Common.{◌≡◌, ℕ, List, [], Result, Ok, Err, refl, sym, ap, subst, ◌∙◌}
+use Rattle.std.proofs.Common.{◌≡◌, ℕ, List, [], Result, Ok, Err, refl, sym, subst, ◌∙◌}
 use Rattle.std.specs.Prelude.{IfOk}
 use Rattle.fx_text.specs.Lines.{lines_of}
 use Rattle.fx_script.specs.declared.draft.Draft.{Draft}
@@ -9,11 +9,11 @@ use Rattle.fx_script.specs.declared.job.Job.{Job}
 use Rattle.fx_script.specs.declared.refusal.ReadJob.{ReadJob}
 use Rattle.fx_script.specs.Answers.{Answers}
 use Rattle.fx_script.specs.Moves.{empty_draft}
-use Rattle.fx_script.specs.Reading.{Refusal, reading, run, job_in_draft, job_in}
+use Rattle.fx_script.specs.Reading.{Refusal, reading, job_in_draft, job_in}
 use Rattle.fx_script.specs.Spelling.{Entry, AreLines, met_from, Spells, job_entries}
 use Rattle.fx_script.proofs.SoFar.{lines_before}
 use Rattle.fx_script.proofs.Adds.{nothing_open}
-use Rattle.fx_script.proofs.Found.{Shows, IsFound, run_found}
+use Rattle.fx_script.proofs.Found.{Shows, run_found}
 use Rattle.fx_script.proofs.Again.{plain, job_leads, run_again}
 
 -- a whole draft's lines are its job's

@@ -1,5 +1,5 @@
 -- What the words of a line say, one after another from the left, or what is wrong first.
-use Rattle.std.specs.Prelude.{◌≡◌, ℕ, zero, suc, ℤ, List, [], ◌∷◌, ◌++◌, ◌==◌, length, codes, Result, Ok, Err, if◌then◌else◌}
+use Rattle.std.specs.Prelude.{ℕ, zero, suc, ℤ, List, [], ◌∷◌, ◌++◌, ◌==◌, length, codes, Result, Ok, Err, if◌then◌else◌}
 use Rattle.std.specs.Str.{bytes_eq}
 use Rattle.fx_base.specs.declared.names.Role.{Role}
 use Rattle.fx_base.specs.declared.names.Role.TheVariants as role

@@ -1,5 +1,5 @@
 -- Reading a text line by line, up to the first fault.
-use Rattle.std.specs.Prelude.{◌≡◌, ℕ, ◌+◌, Bool, true, false, if◌then◌else◌, List, [], ◌∷◌, length, Option, Some, None, Result, Ok, Err}
+use Rattle.std.specs.Prelude.{ℕ, ◌+◌, Bool, true, false, if◌then◌else◌, List, [], ◌∷◌, length, Option, Some, None, Result, Ok, Err}
 use Rattle.fx_base.specs.declared.spot.Spot.{Spot}
 use Rattle.fx_text.specs.declared.check.LineFault.{LineFault}
 use Rattle.fx_text.specs.declared.check.LineFault.TheVariants as line_fault

@@ -1,5 +1,5 @@
 -- Which lines may stand next.
-use Rattle.std.specs.Prelude.{◌≡◌, Bool, true, false, ◌&&◌, ◌==◌, nat_lt, List, [], ◌∷◌, length}
+use Rattle.std.specs.Prelude.{Bool, true, false, ◌&&◌, ◌==◌, nat_lt, List, ◌∷◌, length}
 use Rattle.fx_script.specs.declared.draft.Block.{Block}
 use Rattle.fx_script.specs.declared.draft.Block.TheVariants as block
 use Rattle.fx_script.specs.declared.draft.Stage.{Stage}

@@ -1,11 +1,10 @@
 -- The first line of a text ends at its first byte 10, or at the end.
-use Rattle.std.proofs.Common.{◌≡◌, ℕ, suc, ◌+◌, ◌-◌, ◌<◌, ◌≤◌, Bool, true, false, not, cond, eqb, List, [], ◌∷◌, length, take, drop, Option, Some, None, refl, sym, ap, ◌∙◌, length-drop, arith, inl, inr}
+use Rattle.std.proofs.Common.{◌≡◌, ℕ, suc, ◌+◌, ◌-◌, ◌<◌, ◌≤◌, true, false, eqb, List, [], ◌∷◌, length, take, drop, Some, None, refl, ap, length-drop, arith, inl, inr}
 use Rattle.std.specs.List.{position, position_or_len}
 use Rattle.std.proofs.Math.ListN.{drop_of_length-le}
 use Rattle.std.proofs.lemmas.List.{drop-drop, take_all}
 use Rattle.std.proofs.lemmas.Bool.{cases_Bool}
-use Rattle.fx_text.specs.declared.line.LineSpan.{LineSpan}
-use Rattle.fx_text.specs.Lines.{Line, in_front, lines_of, IsFirstLine}
+use Rattle.fx_text.specs.Lines.{in_front, lines_of, IsFirstLine}
 use Rattle.fx_text.proofs.Positions.{found_at, found_nowhere}
 
 -- the place of the first line end, or the length

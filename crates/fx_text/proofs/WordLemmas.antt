@@ -1,11 +1,10 @@
 -- The first word of a line begins at its first byte that is no space, and goes on to the next space.
-use Rattle.std.proofs.Common.{◌≡◌, ℕ, suc, ◌+◌, ◌-◌, ◌<◌, ◌≤◌, Bool, true, false, not, cond, eqb, List, [], ◌∷◌, length, take, drop, Option, Some, None, refl, sym, ap, ◌∙◌, length-drop, arith, inl, inr}
+use Rattle.std.proofs.Common.{◌≡◌, ℕ, suc, ◌+◌, ◌-◌, ◌<◌, true, false, not, eqb, List, [], ◌∷◌, length, take, drop, Some, refl, sym, ap, ◌∙◌, length-drop, arith, inl, inr}
 use Rattle.std.specs.List.{position, position_or_len}
 use Rattle.std.proofs.lemmas.List.{drop-drop}
 use Rattle.std.proofs.lemmas.Bool.{cases_Bool}
-use Rattle.fx_text.specs.declared.word.Span.{Span}
-use Rattle.fx_text.specs.Words.{Word, begins_word, longer, words_from, IsFirstWord}
-use Rattle.fx_text.proofs.Positions.{first_within, found_at, found_nowhere}
+use Rattle.fx_text.specs.Words.{begins_word, words_from, IsFirstWord}
+use Rattle.fx_text.proofs.Positions.{first_within, found_at}
 
 -- the place of the first byte that is no space, and of the first space, or the length
 abbrev pub letter_of : List ℕ → ℕ

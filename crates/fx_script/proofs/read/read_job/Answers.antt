@@ -1,4 +1,4 @@
-use Rattle.std.proofs.Common.{Result, Ok, subst}
+use Rattle.std.proofs.Common.{Result, subst}
 use Rattle.fx_script.specs.declared.job.Job.{Job}
 use Rattle.fx_script.specs.Answers.{Answers}
 use Rattle.fx_script.specs.Reading.{Refusal}

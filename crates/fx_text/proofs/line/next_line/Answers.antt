@@ -1,5 +1,4 @@
-use Rattle.std.proofs.Common.{◌<◌, ◌∙◌, ap, sym, length, arith}
-use Rattle.std.specs.List.{position}
+use Rattle.std.proofs.Common.{◌∙◌, sym, arith}
 use Rattle.fx_text.proofs.LineLemmas.{first_line_ended, first_line_open}
 use Rattle.fx_text.proofs.line.next_line.Goals as goal
 
