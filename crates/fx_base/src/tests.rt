@@ -91,3 +91,39 @@ fn shares_lose_a_stamp(rt: HostRuntime) -> Result<(), Fail> {
     assert!(rt; copy.get(Stamp(3)).is_none());
     Ok(())
 }
+
+#[test]
+fn names_are_copied(rt: HostRuntime) -> Result<(), Fail> {
+    assert_eq!(rt; Copied::copied(&7u8)?, 7u8);
+    assert_eq!(rt; Copied::copied(&8u32)?, 8u32);
+    assert_eq!(rt; Copied::copied(&-9i64)?, -9i64);
+    assert_eq!(rt; Copied::copied(&Proc(1))?, Proc(1));
+    assert_eq!(rt; Copied::copied(&Place(2))?, Place(2));
+    assert_eq!(rt; Copied::copied(&Ident(3))?, Ident(3));
+    assert_eq!(rt; Copied::copied(&GroupId(4))?, GroupId(4));
+    assert_eq!(rt; Copied::copied(&MemberId(5))?, MemberId(5));
+    assert_eq!(rt; Copied::copied(&Epoch(6))?, Epoch(6));
+    assert_eq!(rt; Copied::copied(&CallNo(7))?, CallNo(7));
+    assert_eq!(rt; Copied::copied(&Stamp(-8))?, Stamp(-8));
+    let pair = (Ident(9), Proc(10));
+    assert_eq!(rt; Copied::copied(&pair)?, (Ident(9), Proc(10)));
+    assert_eq!(rt; Copied::copied(&Some(Stamp(11)))?, Some(Stamp(11)));
+    Ok(())
+}
+
+#[test]
+fn lists_and_maps_are_copied(rt: HostRuntime) -> Result<(), Fail> {
+    let mut stamps = Stamps::new(rt.alloc());
+    stamps.push(Stamp(4))?;
+    assert_eq!(rt; Copied::copied(&stamps)?.nth(0).copied(), Some(Stamp(4)));
+    let mut elements = Sparse::new(rt.alloc());
+    elements.put(3, 5)?;
+    assert_eq!(rt; Copied::copied(&elements)?.get(3).copied(), Some(5));
+    let mut snapshot = Snapshot::new(rt.alloc());
+    snapshot.put(MemberId(6), elements)?;
+    assert_eq!(rt; Copied::copied(&snapshot)?.len(), 1);
+    let mut shares = StampShares::new(rt.alloc());
+    shares.put(Stamp(2), Bytes::new(rt.alloc()))?;
+    assert_eq!(rt; Copied::copied(&shares)?.len(), 1);
+    Ok(())
+}
