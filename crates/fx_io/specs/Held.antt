@@ -1,5 +1,5 @@
 -- A source and a sink in memory that fail at given calls.
-use Rattle.std.specs.Prelude.{◌≡◌, ℕ, ℤ, pos, negsuc, Bool, true, false, ◌==◌, ◌||◌, List, [], ◌∷◌, ◌++◌, length, drop, min, if◌then◌else◌}
+use Rattle.std.specs.Prelude.{◌≡◌, ℕ, ℤ, pos, negsuc, Bool, true, false, ◌==◌, List, ◌++◌, length, drop, min, if◌then◌else◌}
 use Rattle.std.specs.List.{list_any}
 use Rattle.fx_io.specs.declared.source.ReadStep.{ReadStep}
 use Rattle.fx_io.specs.declared.source.ReadStep.TheVariants as read
