@@ -9,5 +9,6 @@ pub mod Adds
 pub mod Found
 pub mod Again
 pub mod Spelled
+pub mod Placed
 pub mod ExprSteps
 pub mod PairSteps

@@ -14,4 +14,5 @@ pub mod Moves
 pub mod Reading
 pub mod Answers
 pub mod Spelling
+pub mod Canonical
 pub mod Rows

@@ -10,6 +10,7 @@ mod job;
 mod keyword;
 pub mod laws;
 mod name;
+mod print;
 mod read;
 mod reader;
 mod refusal;
@@ -22,6 +23,7 @@ pub use job::{
     Callback, Callbacks, Decl, Event, EventKind, Events, Job, Names, NumPairs, Picked, Stmt, Stmts,
     Test,
 };
+pub use print::print_job;
 pub use read::read_job;
 pub use refusal::{JobFault, ReadJob};
 
