@@ -1,5 +1,5 @@
 -- What a job declares: its arrays, counters and callbacks, and the groups and members of its body.
-use Rattle.std.specs.Prelude.{◌≡◌, ℕ, ℤ, pos, negsuc, if◌then◌else◌, Bool, true, false, ◌&&◌, ◌||◌, List, [], ◌∷◌, ◌++◌, length, map, codes, Option, Some, None, is_some, refl}
+use Rattle.std.specs.Prelude.{◌≡◌, ℕ, ℤ, pos, negsuc, if◌then◌else◌, nat_le, Bool, true, false, ◌&&◌, ◌||◌, List, [], ◌∷◌, ◌++◌, length, map, codes, Option, Some, None, is_some, refl}
 use Rattle.std.specs.List.{find, filter, list_any}
 use Rattle.std.specs.Ordering.{int_eq}
 use Rattle.std.specs.Str.{bytes_eq}
@@ -12,6 +12,9 @@ use Rattle.fx_script.specs.declared.job.Stmt.{Stmt}
 use Rattle.fx_script.specs.declared.job.Stmt.TheOpen.{Stmt-F}
 use Rattle.fx_script.specs.declared.job.Stmt.TheFolds.{fold-Stmt}
 use Rattle.fx_script.specs.Spelling.{chained}
+use Rattle.fx_check.specs.declared.tables.Attached.{Attached}
+use Rattle.fx_check.specs.declared.tables.Created.{Created}
+use Rattle.fx_check.specs.declared.tables.Tables.{Tables}
 
 -- ---- declarations
 
@@ -59,18 +62,6 @@ is_counter names name = list_any (is_counter_of name) names
 
 -- ---- the statements of the body that create groups and attach members
 
--- a group that a statement creates, with its start stamp and its depth
-pub record Created : Type 0 where
-  pub group : ℤ
-  pub start : ℤ
-  pub depth : ℤ
-
--- an array that a statement attaches to a member of a group
-pub record Attached : Type 0 where
-  pub group : ℤ
-  pub member : ℤ
-  pub array : List ℕ
-
 -- what stands in the other list of a branch
 abbrev pub in_other : {X : Type 0} → Option (List (List X)) → List X
 in_other None = []
@@ -104,19 +95,49 @@ attached_by = fold-Stmt (List Attached) attached_level
 abbrev pub attached_in : List Stmt → List Attached
 attached_in ss = chained (map attached_by ss)
 
--- the first creation of this group
+-- ---- the first of a group, and of a member
+
 abbrev pub creates : ℤ → Created → Bool
 creates group c = int_eq c.group group
 
+-- the first creation of this group
 abbrev pub first_created : List Created → ℤ → Option Created
 first_created all group = find (creates group) all
 
--- the first attachment of this member of this group
 abbrev pub attaches : ℤ → ℤ → Attached → Bool
 attaches group member a = int_eq a.group group && int_eq a.member member
 
-abbrev pub first_attached : List Attached → ℤ → ℤ → Option Attached
-first_attached all group member = find (attaches group member) all
+abbrev pub array_of : Option Attached → Option (List ℕ)
+array_of None = None
+array_of (Some a) = Some a.array
+
+-- the array that is attached first to this member of this group
+abbrev pub first_attached : List Attached → ℤ → ℤ → Option (List ℕ)
+first_attached all group member = array_of (find (attaches group member) all)
+
+-- the first, or where there is none the second
+abbrev pub or_first : {X : Type 0} → Option X → Option X → Option X
+or_first None second = second
+or_first (Some x) second = Some x
+
+-- groups and members are numbered from 0 to 7
+abbrev pub is_eighth : ℤ → Bool
+is_eighth (pos n) = nat_le n 7
+is_eighth (negsuc n) = false
+
+-- a list of creations was grown by these, so far as the first of each of the eight groups goes
+abbrev pub GrewCreated : List Created → List Created → List Created → Type 0
+GrewCreated old new more = (group : ℤ) → is_eighth group ≡ true → first_created new group ≡ or_first (first_created old group) (first_created more group)
+
+-- the same of attachments
+abbrev pub GrewAttached : List Attached → List Attached → List Attached → Type 0
+GrewAttached old new more = (group member : ℤ) → is_eighth group ≡ true → is_eighth member ≡ true
+    → first_attached new group member ≡ or_first (first_attached old group member) (first_attached more group member)
+
+-- tables of a body: they hold the first of each group and of each member of the body
+pub record AreTables (tables : Tables) (body : List Stmt) : Type 0 where
+  pub created : (group : ℤ) → is_eighth group ≡ true → first_created tables.created group ≡ first_created (created_in body) group
+  pub attached : (group member : ℤ) → is_eighth group ≡ true → is_eighth member ≡ true → first_attached tables.attached group member ≡ first_attached (attached_in body) group member
 
 -- ---- together
 

@@ -6,6 +6,7 @@ use Rattle.std.specs.Str.{bytes_eq}
 use Rattle.fx_script.specs.declared.expr.Expr.{Expr}
 use Rattle.fx_script.specs.declared.expr.Expr.TheOpen.{Expr-F}
 use Rattle.fx_script.specs.declared.expr.Expr.TheFolds.{fold-Expr}
+use Rattle.fx_script.specs.declared.job.Decl.{Decl}
 use Rattle.fx_script.specs.declared.job.EventKind.{EventKind}
 use Rattle.fx_script.specs.declared.job.EventKind.TheVariants as event
 use Rattle.fx_script.specs.declared.job.Job.{Job}
@@ -14,7 +15,8 @@ use Rattle.fx_script.specs.declared.job.Picked.TheVariants as picked
 use Rattle.fx_script.specs.declared.job.Stmt.TheOpen.{Stmt-F}
 use Rattle.fx_subset.specs.declared.fault.SubsetFault.{SubsetFault}
 use Rattle.fx_subset.specs.Fault.{fault_of_blocks, fault_of_pairs, fault_of_whole}
-use Rattle.fx_check.specs.Facts.{Created, Attached, Facts, array_in, is_array, is_counter, is_value, is_callback, has_group, has_member, first_created, first_attached}
+use Rattle.fx_check.specs.declared.tables.Created.{Created}
+use Rattle.fx_check.specs.Facts.{Facts, is_eighth, array_in, is_array, is_counter, is_value, is_callback, has_group, has_member, first_created, first_attached}
 
 -- ---- numbers
 
@@ -27,10 +29,6 @@ is_between low high (negsuc n) = false
 abbrev pub count_of : ℤ → ℕ
 count_of (pos n) = n
 count_of (negsuc n) = 0
-
--- the number of a group, and that of a member
-abbrev pub is_eighth : ℤ → Bool
-is_eighth n = is_between 0 7 n
 
 -- an index of an array of this length
 abbrev pub is_index_of : ℤ → ℤ → Bool
@@ -231,9 +229,9 @@ agrees_on_group f (Stmt-F.Group spot group start depth) = is_same_creation (firs
 agrees_on_group f other = true
 
 -- this array is attached to a member, where one is attached at all
-abbrev pub is_same_attachment : Option Attached → List ℕ → Bool
+abbrev pub is_same_attachment : Option (List ℕ) → List ℕ → Bool
 is_same_attachment None array = true
-is_same_attachment (Some first) array = bytes_eq first.array array
+is_same_attachment (Some first) array = bytes_eq first array
 
 -- it attaches to its member the array that the first that attaches it does
 abbrev pub agrees_on_member : {X : Type 0} → Facts → Stmt-F X → Bool
@@ -260,10 +258,10 @@ abbrev pub lies_in : Option ℤ → Picked → Bool
 lies_in None subset = true
 lies_in (Some len) subset = not (picked_fits_32 subset) || is_faultless (subset_fault (count_of len) subset)
 
--- the length of the array of an attachment
-abbrev pub length_of_attached : List Rattle.fx_script.specs.declared.job.Decl.Decl → Option Attached → Option ℤ
+-- the length of the array that is attached
+abbrev pub length_of_attached : List Decl → Option (List ℕ) → Option ℤ
 length_of_attached names None = None
-length_of_attached names (Some first) = array_in names first.array
+length_of_attached names (Some array) = array_in names array
 
 -- what it stores lies in the array of its member
 abbrev pub stores_inside : {X : Type 0} → Facts → Stmt-F X → Bool

@@ -2,5 +2,6 @@
 #![tactic(auto)]
 
 mod fault;
+mod tables;
 
 pub use fault::{CheckJob, StaticFault};

@@ -1,0 +1,177 @@
+ghost use Rattle.std.specs.Prelude.{◌≡◌, ◌∷◌, [], IfOk, OnOk};
+ghost use Rattle.std.specs.Option.{option_copied};
+ghost use Rattle.fx_check.specs.Facts.{GrewAttached, GrewCreated, AreTables, attached_by, attached_in, created_by, created_in, first_attached, first_created, is_eighth};
+
+use fx_base::{Bytes, NoMemory, Seq};
+use fx_script::Stmt;
+use std::alloc::Global;
+
+/// A group that a statement creates, with its start stamp and its depth.
+#[derive(Clone, Copy, Debug, PartialEq, Eq)]
+pub struct Created {
+    pub group: i64,
+    pub start: i64,
+    pub depth: i64,
+}
+
+/// An array that a statement attaches to a member of a group.
+#[derive(Debug, Drop)]
+pub struct Attached {
+    pub group: i64,
+    pub member: i64,
+    pub array: Bytes,
+}
+
+/// The first creation of each of the eight groups, and the first attachment of each of their eight members.
+#[derive(Debug, Drop)]
+pub struct Tables {
+    pub created: Seq<Created>,
+    pub attached: Seq<Attached>,
+}
+
+impl Tables {
+    /// What the statements of a body create and attach.
+    pub fn of_body(alloc: Global, body: &[Stmt]) -> Result<Tables, NoMemory>
+        ensures { IfOk result (λ tables. AreTables tables body.now) }
+    {
+        let mut created = Seq::new(alloc);
+        gather_created(&mut created, body)?;
+        let mut attached = Seq::new(alloc);
+        gather_attached(&mut attached, body)?;
+        Ok(Tables { created, attached })
+    }
+}
+
+/// Whether a number is that of a group or of a member.
+pub fn is_eighth(number: i64) -> bool
+    ensures { result ≡ is_eighth number }
+{
+    number >= 0 && number <= 7
+}
+
+// ---- groups
+
+#[cycle(gather_created)]
+fn gather_created(created: &mut Seq<Created>, body: &[Stmt]) -> Result<(), NoMemory>
+    ensures { OnOk result (GrewCreated created.old created.new (created_in body.now)) }
+{
+    for statement in body {
+        gather_created_by(created, statement)?;
+    }
+    Ok(())
+}
+
+#[cycle(gather_created)]
+fn gather_created_by(created: &mut Seq<Created>, statement: &Stmt) -> Result<(), NoMemory>
+    ensures { OnOk result (GrewCreated created.old created.new (created_by statement.now)) }
+{
+    match statement {
+        Stmt::Group {
+            group,
+            start,
+            depth,
+            ..
+        } => add_created(
+            created,
+            Created {
+                group: *group,
+                start: *start,
+                depth: *depth,
+            },
+        ),
+        Stmt::RoleOnly { body, .. } => gather_created(created, body.as_slice()),
+        Stmt::Branch { yes, no, .. } => {
+            gather_created(created, yes.as_slice())?;
+            if let Some(no) = no {
+                gather_created(created, no.as_slice())?;
+            }
+            Ok(())
+        }
+        Stmt::Loop { body, .. } => gather_created(created, body.as_slice()),
+        _ => Ok(()),
+    }
+}
+
+fn add_created(created: &mut Seq<Created>, more: Created) -> Result<(), NoMemory>
+    ensures { OnOk result (GrewCreated created.old created.new (more ∷ [])) }
+{
+    if is_eighth(more.group) && first_created(created.as_slice(), more.group).is_none() {
+        created.push(more)?;
+    }
+    Ok(())
+}
+
+fn first_created(created: &[Created], group: i64) -> Option<Created>
+    ensures { result ≡ first_created created.now group }
+{
+    created
+        .iter()
+        .copied()
+        .find(|other| other.group == group)
+}
+
+// ---- members
+
+#[cycle(gather_attached)]
+fn gather_attached(attached: &mut Seq<Attached>, body: &[Stmt]) -> Result<(), NoMemory>
+    ensures { OnOk result (GrewAttached attached.old attached.new (attached_in body.now)) }
+{
+    for statement in body {
+        gather_attached_by(attached, statement)?;
+    }
+    Ok(())
+}
+
+#[cycle(gather_attached)]
+fn gather_attached_by(attached: &mut Seq<Attached>, statement: &Stmt) -> Result<(), NoMemory>
+    ensures { OnOk result (GrewAttached attached.old attached.new (attached_by statement.now)) }
+{
+    match statement {
+        Stmt::Member {
+            group,
+            member,
+            array,
+            ..
+        } => add_attached(attached, *group, *member, array),
+        Stmt::RoleOnly { body, .. } => gather_attached(attached, body.as_slice()),
+        Stmt::Branch { yes, no, .. } => {
+            gather_attached(attached, yes.as_slice())?;
+            if let Some(no) = no {
+                gather_attached(attached, no.as_slice())?;
+            }
+            Ok(())
+        }
+        Stmt::Loop { body, .. } => gather_attached(attached, body.as_slice()),
+        _ => Ok(()),
+    }
+}
+
+fn add_attached(
+    attached: &mut Seq<Attached>,
+    group: i64,
+    member: i64,
+    array: &Bytes,
+) -> Result<(), NoMemory>
+    ensures { OnOk result (GrewAttached attached.old attached.new (record { group = group; member = member; array = array.now } ∷ [])) }
+{
+    if is_eighth(group)
+        && is_eighth(member)
+        && first_attached(attached.as_slice(), group, member).is_none()
+    {
+        attached.push(Attached {
+            group,
+            member,
+            array: array.copy()?,
+        })?;
+    }
+    Ok(())
+}
+
+fn first_attached(attached: &[Attached], group: i64, member: i64) -> Option<&[u8]>
+    ensures { option_copied result ≡ first_attached attached.now group member }
+{
+    let first = attached
+        .iter()
+        .find(|other| other.group == group && other.member == member)?;
+    Some(first.array.as_slice())
+}
