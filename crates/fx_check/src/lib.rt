@@ -1,6 +1,9 @@
 //! Acceptance: which jobs of the job language can be run.
 #![tactic(auto)]
 
+mod accepted;
 mod fault;
+mod work;
 
+pub use accepted::Accepted;
 pub use fault::{CheckJob, StaticFault};
