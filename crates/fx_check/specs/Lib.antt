@@ -2,3 +2,4 @@ pub mod Facts
 pub mod Rules
 pub mod Work
 pub mod Acceptance
+pub mod Holds

@@ -1,7 +1,10 @@
 //! Acceptance: which jobs of the job language can be run.
 #![tactic(auto)]
 
+mod accepted;
 mod fault;
 mod tables;
+mod work;
 
+pub use accepted::Accepted;
 pub use fault::{CheckJob, StaticFault};
