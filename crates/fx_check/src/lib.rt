@@ -3,6 +3,7 @@
 
 mod accepted;
 mod fault;
+mod lookup;
 mod tables;
 mod work;
 

@@ -51,6 +51,7 @@ pub fn is_eighth(number: i64) -> bool
 
 // ---- groups
 
+#[tactic(auto, using(crate::proofs::Gathering::created_done))]
 #[cycle(gather_created)]
 fn gather_created(created: &mut Seq<Created>, body: &[Stmt]) -> Result<(), NoMemory>
     ensures { OnOk result (GrewCreated created.old created.new (created_in body.now)) }
@@ -61,6 +62,7 @@ fn gather_created(created: &mut Seq<Created>, body: &[Stmt]) -> Result<(), NoMem
     Ok(())
 }
 
+#[tactic(auto, using(crate::proofs::Gathering::created_step, crate::proofs::Gathering::created_none))]
 #[cycle(gather_created)]
 fn gather_created_by(created: &mut Seq<Created>, statement: &Stmt) -> Result<(), NoMemory>
     ensures { OnOk result (GrewCreated created.old created.new (created_by statement.now)) }
@@ -92,6 +94,7 @@ fn gather_created_by(created: &mut Seq<Created>, statement: &Stmt) -> Result<(),
     }
 }
 
+#[tactic(auto, using(crate::proofs::Gathering::created_skipped, crate::proofs::Gathering::created_found, crate::proofs::Gathering::created_pushed))]
 fn add_created(created: &mut Seq<Created>, more: Created) -> Result<(), NoMemory>
     ensures { OnOk result (GrewCreated created.old created.new (more ∷ [])) }
 {
@@ -101,7 +104,7 @@ fn add_created(created: &mut Seq<Created>, more: Created) -> Result<(), NoMemory
     Ok(())
 }
 
-fn first_created(created: &[Created], group: i64) -> Option<Created>
+pub fn first_created(created: &[Created], group: i64) -> Option<Created>
     ensures { result ≡ first_created created.now group }
 {
     created
@@ -112,6 +115,7 @@ fn first_created(created: &[Created], group: i64) -> Option<Created>
 
 // ---- members
 
+#[tactic(auto, using(crate::proofs::Gathering::attached_done))]
 #[cycle(gather_attached)]
 fn gather_attached(attached: &mut Seq<Attached>, body: &[Stmt]) -> Result<(), NoMemory>
     ensures { OnOk result (GrewAttached attached.old attached.new (attached_in body.now)) }
@@ -122,6 +126,7 @@ fn gather_attached(attached: &mut Seq<Attached>, body: &[Stmt]) -> Result<(), No
     Ok(())
 }
 
+#[tactic(auto, using(crate::proofs::Gathering::attached_step, crate::proofs::Gathering::attached_none))]
 #[cycle(gather_attached)]
 fn gather_attached_by(attached: &mut Seq<Attached>, statement: &Stmt) -> Result<(), NoMemory>
     ensures { OnOk result (GrewAttached attached.old attached.new (attached_by statement.now)) }
@@ -146,6 +151,7 @@ fn gather_attached_by(attached: &mut Seq<Attached>, statement: &Stmt) -> Result<
     }
 }
 
+#[tactic(auto, using(crate::proofs::Gathering::attached_skipped, crate::proofs::Gathering::attached_found, crate::proofs::Gathering::attached_pushed))]
 fn add_attached(
     attached: &mut Seq<Attached>,
     group: i64,
@@ -167,7 +173,7 @@ fn add_attached(
     Ok(())
 }
 
-fn first_attached(attached: &[Attached], group: i64, member: i64) -> Option<&[u8]>
+pub fn first_attached(attached: &[Attached], group: i64, member: i64) -> Option<&[u8]>
     ensures { option_copied result ≡ first_attached attached.now group member }
 {
     let first = attached
