@@ -15,8 +15,9 @@ use Rattle.fx_check.specs.declared.fault.CheckJob.{CheckJob}
 use Rattle.fx_check.specs.declared.fault.CheckJob.TheVariants as check
 use Rattle.fx_check.specs.declared.fault.StaticFault.{StaticFault}
 use Rattle.fx_check.specs.declared.fault.StaticFault.TheVariants.{UnknownName, NameTwice, OutOfRange, NotUniform, Misplaced, GroupDiffers, MemberDiffers, SubsetOutside, TooMuchWork}
+use Rattle.fx_check.specs.declared.place.Place.{Place}
 use Rattle.fx_check.specs.Facts.{Facts, facts_of, name_of, decl_spot, is_of, is_array_decl, is_counter_decl, is_call_of}
-use Rattle.fx_check.specs.Rules.{Place, body_place, callback_place, inside_when, inside_if, inside_for, is_between, count_of, procs_of, is_event_in_range, is_known, is_in_range, is_uniform, is_placed, agrees_on_group, agrees_on_member, stores_inside}
+use Rattle.fx_check.specs.Rules.{body_place, callback_place, inside_when, inside_if, inside_for, is_between, count_of, procs_of, is_event_in_range, is_known, is_in_range, has_room, is_uniform, is_placed, agrees_on_group, agrees_on_member, stores_inside}
 use Rattle.fx_check.specs.Work.{work_of}
 
 -- ---- the lines of a job
@@ -27,19 +28,21 @@ pub record Line : Type 0 where
   pub known : Bool
   pub once : Bool
   pub in_range : Bool
+  pub roomy : Bool
   pub uniform : Bool
   pub placed : Bool
   pub same_group : Bool
   pub same_member : Bool
   pub inside : Bool
 
--- a line that declares a name and has a number; no other rule speaks of it
-abbrev pub naming_line : Spot → Bool → Bool → Line
-naming_line spot once in_range = record {
+-- a line of which the other rules don't speak
+abbrev pub plain_line : Spot → Bool → Bool → Bool → Line
+plain_line spot once in_range roomy = record {
   spot = spot;
   known = true;
   once = once;
   in_range = in_range;
+  roomy = roomy;
   uniform = true;
   placed = true;
   same_group = true;
@@ -49,7 +52,7 @@ naming_line spot once in_range = record {
 
 -- a line that has numbers alone
 abbrev pub number_line : Spot → Bool → Line
-number_line spot in_range = naming_line spot true in_range
+number_line spot in_range = plain_line spot true in_range true
 
 -- 1 to 16 ranks, with the spares at most 16 processes, and a separation of 1 to 15
 abbrev pub head_lines : Job → List Line
@@ -59,14 +62,19 @@ head_lines job =
     ∷ number_line job.separation_spot (is_between 1 15 job.separation)
     ∷ []
 
--- behind these declarations: one of the first 8 arrays, of 1 to 256 elements, or of the first 16 counters
+-- an array has 1 to 256 elements
+abbrev pub is_decl_in_range : Decl → Bool
+is_decl_in_range (decl.Array spot name len) = is_between 1 256 len
+is_decl_in_range (decl.Counter spot name) = true
+
+-- behind these declarations: one of the first 8 arrays, or of the first 16 counters
 abbrev pub has_decl_room : List Decl → Decl → Bool
-has_decl_room before (decl.Array spot name len) = nat_lt (length (filter is_array_decl before)) 8 && is_between 1 256 len
+has_decl_room before (decl.Array spot name len) = nat_lt (length (filter is_array_decl before)) 8
 has_decl_room before (decl.Counter spot name) = nat_lt (length (filter is_counter_decl before)) 16
 
 -- a new name
 abbrev pub decl_line : List Decl → Decl → Line
-decl_line before d = naming_line (decl_spot d) (not (list_any (is_of (name_of d)) before)) (has_decl_room before d)
+decl_line before d = plain_line (decl_spot d) (not (list_any (is_of (name_of d)) before)) (is_decl_in_range d) (has_decl_room before d)
 
 -- the lines of declarations behind these
 abbrev pub decl_lines : List Decl → List Decl → List Line
@@ -100,13 +108,18 @@ stmt_line f p s = record {
   spot = spot_level s;
   known = is_known f s;
   once = true;
-  in_range = is_in_range f p s;
+  in_range = is_in_range f s;
+  roomy = has_room p s;
   uniform = is_uniform f p s;
   placed = is_placed p s;
   same_group = agrees_on_group f s;
   same_member = agrees_on_member f s;
   inside = stores_inside f s;
 }
+
+-- the first line of a statement of its own
+abbrev pub line_of : Facts → Place → Stmt → Line
+line_of f p = fold-Stmt Line (stmt_line f p)
 
 -- the lines of a list of statements, each of which gives its own at a place
 abbrev pub lines_at : List (Place → List Line) → Place → List Line
@@ -139,7 +152,7 @@ callback_body_lines f before (s ∷ ss) = stmt_lines f s (callback_place before)
 
 -- a new name, one of the first 8 callbacks
 abbrev pub callback_line : Facts → List Callback → Callback → Line
-callback_line f before c = naming_line c.spot (not (list_any (is_of c.name) f.names || list_any (is_call_of c.name) before)) (nat_lt (length before) 8)
+callback_line f before c = plain_line c.spot (not (list_any (is_of c.name) f.names || list_any (is_call_of c.name) before)) true (nat_lt (length before) 8)
 
 -- the lines of callbacks behind these
 abbrev pub callbacks_lines : Facts → List Callback → List Callback → List Line
@@ -149,7 +162,7 @@ callbacks_lines f before (c ∷ cs) = callback_line f before c ∷ (callback_bod
 -- the lines of events behind so many: at most 100,000
 abbrev pub event_lines : ℕ → ℕ → List Event → List Line
 event_lines procs before [] = []
-event_lines procs before (e ∷ es) = number_line e.spot (nat_lt before 100000 && is_event_in_range procs e.kind) ∷ event_lines procs (before + 1) es
+event_lines procs before (e ∷ es) = plain_line e.spot true (is_event_in_range procs e.kind) (nat_lt before 100000) ∷ event_lines procs (before + 1) es
 
 -- the lines of a job of which a rule speaks, in their order
 abbrev pub lines_of : Job → List Line
@@ -167,6 +180,7 @@ pub record IsAccepted (job : Job) : Type 0 where
   pub known : AllByRecursion (λ l. l.known ≡ true) (lines_of job)
   pub once : AllByRecursion (λ l. l.once ≡ true) (lines_of job)
   pub in_range : AllByRecursion (λ l. l.in_range ≡ true) (lines_of job)
+  pub roomy : AllByRecursion (λ l. l.roomy ≡ true) (lines_of job)
   pub uniform : AllByRecursion (λ l. l.uniform ≡ true) (lines_of job)
   pub placed : AllByRecursion (λ l. l.placed ≡ true) (lines_of job)
   pub same_group : AllByRecursion (λ l. l.same_group ≡ true) (lines_of job)
@@ -179,12 +193,13 @@ abbrev pub fault_of : Line → Option StaticFault
 fault_of l = if not l.known then Some UnknownName
     else (if not l.once then Some NameTwice
     else (if not l.in_range then Some OutOfRange
+    else (if not l.roomy then Some OutOfRange
     else (if not l.uniform then Some NotUniform
     else (if not l.placed then Some Misplaced
     else (if not l.same_group then Some GroupDiffers
     else (if not l.same_member then Some MemberDiffers
     else (if not l.inside then Some SubsetOutside
-    else None)))))))
+    else None))))))))
 
 -- a reason and the place of its line
 pub record Refused : Type 0 where

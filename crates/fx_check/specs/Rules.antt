@@ -15,6 +15,7 @@ use Rattle.fx_script.specs.declared.job.Picked.TheVariants as picked
 use Rattle.fx_script.specs.declared.job.Stmt.TheOpen.{Stmt-F}
 use Rattle.fx_subset.specs.declared.fault.SubsetFault.{SubsetFault}
 use Rattle.fx_subset.specs.Fault.{fault_of_blocks, fault_of_pairs, fault_of_whole}
+use Rattle.fx_check.specs.declared.place.Place.{Place}
 use Rattle.fx_check.specs.declared.tables.Created.{Created}
 use Rattle.fx_check.specs.Facts.{Facts, is_eighth, array_in, is_array, is_counter, is_value, is_callback, has_group, has_member, first_created, first_attached}
 
@@ -110,15 +111,6 @@ expr_uniform f = fold-Expr Bool (expr_uniform_level f)
 
 -- ---- where a statement stands
 
--- in a callback or in the body, behind how many statements of the callback, inside `when` or not, and in how many
--- blocks and loops
-pub record Place : Type 0 where
-  pub in_callback : Bool
-  pub before : ℕ
-  pub in_when : Bool
-  pub blocks : ℕ
-  pub loops : ℕ
-
 -- the body
 abbrev pub body_place : Place
 body_place = record { in_callback = false; before = 0; in_when = false; blocks = 0; loops = 0 }
@@ -160,32 +152,29 @@ is_known f (Stmt-F.Drop spot group stamp) = has_group f group && expr_known f st
 is_known f other = true
 
 -- its numbers are within their limits, and the arrays that it puts together are of one length
-abbrev pub has_fitting_numbers : {X : Type 0} → Facts → Stmt-F X → Bool
-has_fitting_numbers f (Stmt-F.Let spot array value) = expr_groups value && expr_alike f (array_in f.names array) value
-has_fitting_numbers f (Stmt-F.Set spot counter value) = expr_groups value
-has_fitting_numbers f (Stmt-F.Branch spot test left right body other) = expr_groups left && expr_groups right
-has_fitting_numbers f (Stmt-F.Loop spot counter first last body) = expr_groups first && is_between 0 9999 last
-has_fitting_numbers f (Stmt-F.Agree spot counter array index) = is_index_if (array_in f.names array) index
-has_fitting_numbers f (Stmt-F.Shift spot source target by) = is_between 1 15 by && are_alike (array_in f.names source) (array_in f.names target)
-has_fitting_numbers f (Stmt-F.Group spot group start depth) = is_eighth group && is_between 0 1000000000 start && is_between 0 15 depth
-has_fitting_numbers f (Stmt-F.Member spot group member array) = is_eighth group && is_eighth member
-has_fitting_numbers f (Stmt-F.Store spot group member subset) = is_eighth group && is_eighth member && picked_fits_32 subset
-has_fitting_numbers f (Stmt-F.Commit spot group) = is_eighth group
-has_fitting_numbers f (Stmt-F.CommitBarrier spot group) = is_eighth group
-has_fitting_numbers f (Stmt-F.Restore spot group member stamp) = is_eighth group && is_eighth member && expr_groups stamp
-has_fitting_numbers f (Stmt-F.Drop spot group stamp) = is_eighth group && expr_groups stamp
-has_fitting_numbers f other = true
+abbrev pub is_in_range : {X : Type 0} → Facts → Stmt-F X → Bool
+is_in_range f (Stmt-F.Let spot array value) = expr_groups value && expr_alike f (array_in f.names array) value
+is_in_range f (Stmt-F.Set spot counter value) = expr_groups value
+is_in_range f (Stmt-F.Branch spot test left right body other) = expr_groups left && expr_groups right
+is_in_range f (Stmt-F.Loop spot counter first last body) = expr_groups first && is_between 0 9999 last
+is_in_range f (Stmt-F.Agree spot counter array index) = is_index_if (array_in f.names array) index
+is_in_range f (Stmt-F.Shift spot source target by) = is_between 1 15 by && are_alike (array_in f.names source) (array_in f.names target)
+is_in_range f (Stmt-F.Group spot group start depth) = is_eighth group && is_between 0 1000000000 start && is_between 0 15 depth
+is_in_range f (Stmt-F.Member spot group member array) = is_eighth group && is_eighth member
+is_in_range f (Stmt-F.Store spot group member subset) = is_eighth group && is_eighth member && picked_fits_32 subset
+is_in_range f (Stmt-F.Commit spot group) = is_eighth group
+is_in_range f (Stmt-F.CommitBarrier spot group) = is_eighth group
+is_in_range f (Stmt-F.Restore spot group member stamp) = is_eighth group && is_eighth member && expr_groups stamp
+is_in_range f (Stmt-F.Drop spot group stamp) = is_eighth group && expr_groups stamp
+is_in_range f other = true
 
--- a block stands in at most seven others, and a loop in at most three
+-- there is room for it: a block stands in at most seven others, a loop in at most three, and a callback has at most 16
+-- statements
 abbrev pub has_room : {X : Type 0} → Place → Stmt-F X → Bool
-has_room p (Stmt-F.RoleOnly spot role body) = nat_lt p.blocks 8
-has_room p (Stmt-F.Branch spot test left right body other) = nat_lt p.blocks 8
-has_room p (Stmt-F.Loop spot counter first last body) = nat_lt p.blocks 8 && nat_lt p.loops 4
-has_room p simple = true
-
--- all that counts is within its limit; a callback has at most 16 statements
-abbrev pub is_in_range : {X : Type 0} → Facts → Place → Stmt-F X → Bool
-is_in_range f p s = has_fitting_numbers f s && has_room p s && nat_lt p.before 16
+has_room p (Stmt-F.RoleOnly spot role body) = nat_lt p.before 16 && nat_lt p.blocks 8
+has_room p (Stmt-F.Branch spot test left right body other) = nat_lt p.before 16 && nat_lt p.blocks 8
+has_room p (Stmt-F.Loop spot counter first last body) = nat_lt p.before 16 && nat_lt p.blocks 8 && nat_lt p.loops 4
+has_room p simple = nat_lt p.before 16
 
 -- control and stamps are the same on all ranks: their expressions are uniform, and no counter is set inside `when`
 abbrev pub is_uniform : {X : Type 0} → Facts → Place → Stmt-F X → Bool
@@ -253,10 +242,10 @@ abbrev pub is_faultless : Option SubsetFault → Bool
 is_faultless None = true
 is_faultless (Some fault) = false
 
--- a subset lies in an array, where the array is declared and the numbers fit
+-- a subset lies in an array, where the array is declared and all numbers fit
 abbrev pub lies_in : Option ℤ → Picked → Bool
 lies_in None subset = true
-lies_in (Some len) subset = not (picked_fits_32 subset) || is_faultless (subset_fault (count_of len) subset)
+lies_in (Some len) subset = not (fits_32 len && picked_fits_32 subset) || is_faultless (subset_fault (count_of len) subset)
 
 -- the length of the array that is attached
 abbrev pub length_of_attached : List Decl → Option (List ℕ) → Option ℤ
