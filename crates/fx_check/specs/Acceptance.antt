@@ -223,8 +223,12 @@ work_refused job None = if nat_lt 20000 (work_of job.body) then Some (record { f
 abbrev pub refusal_of : Job → Option Refused
 refusal_of job = work_refused job (first_refused (lines_of job))
 
--- the answer is what this refusal is, or memory ran out
+-- this refusal, or memory ran out
+abbrev pub Refuses : CheckJob → Option Refused → Type 0
+Refuses (check.Refused fault spot) refusal = refusal ≡ Some (record { fault = fault; spot = spot })
+Refuses check.NoMemory refusal = Unit {0}
+
+-- the answer is what this refusal is: Ok exactly where there is none
 abbrev pub Answers : {X : Type 0} → Result X CheckJob → Option Refused → Type 0
 Answers (Ok x) refusal = refusal ≡ None
-Answers (Err (check.Refused fault spot)) refusal = refusal ≡ Some (record { fault = fault; spot = spot })
-Answers (Err check.NoMemory) refusal = Unit {0}
+Answers (Err e) refusal = Refuses e refusal

@@ -43,8 +43,11 @@ impl Place {
 
     /// Inside a `when` that stands here.
     pub fn inside_when(self) -> Place
-        requires { self.blocks ≤ 8 }
-        ensures { result ≡ inside_when self }
+        requires blocks { self.blocks < 8 }
+        requires loops { self.loops ≤ 4 }
+        ensures same { result ≡ inside_when self }
+        ensures blocks { result.blocks ≤ 8 }
+        ensures loops { result.loops ≤ 4 }
     {
         Place {
             in_when: true,
@@ -55,8 +58,11 @@ impl Place {
 
     /// Inside an `if` that stands here.
     pub fn inside_if(self) -> Place
-        requires { self.blocks ≤ 8 }
-        ensures { result ≡ inside_if self }
+        requires blocks { self.blocks < 8 }
+        requires loops { self.loops ≤ 4 }
+        ensures same { result ≡ inside_if self }
+        ensures blocks { result.blocks ≤ 8 }
+        ensures loops { result.loops ≤ 4 }
     {
         Place {
             blocks: self.blocks + 1,
@@ -66,9 +72,11 @@ impl Place {
 
     /// Inside a `for` that stands here.
     pub fn inside_for(self) -> Place
-        requires blocks { self.blocks ≤ 8 }
-        requires loops { self.loops ≤ 8 }
-        ensures { result ≡ inside_for self }
+        requires blocks { self.blocks < 8 }
+        requires loops { self.loops < 4 }
+        ensures same { result ≡ inside_for self }
+        ensures blocks { result.blocks ≤ 8 }
+        ensures loops { result.loops ≤ 4 }
     {
         Place {
             blocks: self.blocks + 1,

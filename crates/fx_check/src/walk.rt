@@ -65,3 +65,57 @@ fn stmt_spot(place: Place, job: &Job, statement: &Stmt) -> Spot
         | Stmt::Drop { spot, .. } => *spot,
     }
 }
+
+/// Checks statements that stand at a place, in the order of their lines.
+#[cycle(checking)]
+pub fn check_stmts(
+    alloc: Global,
+    job: &Job,
+    tables: &Tables,
+    place: Place,
+    body: &[Stmt],
+) -> Result<(), CheckJob>
+    requires tables { AreTables tables.now job.now.body }
+    requires blocks { place.blocks ≤ 8 }
+    requires loops { place.loops ≤ 4 }
+    ensures { Answers result (first_refused (stmts_lines (facts_of job.now) body.now place)) }
+{
+    for statement in body {
+        check_stmt(alloc, job, tables, place, statement)?;
+    }
+    Ok(())
+}
+
+#[cycle(checking)]
+pub fn check_stmt(
+    alloc: Global,
+    job: &Job,
+    tables: &Tables,
+    place: Place,
+    statement: &Stmt,
+) -> Result<(), CheckJob>
+    requires tables { AreTables tables.now job.now.body }
+    requires blocks { place.blocks ≤ 8 }
+    requires loops { place.loops ≤ 4 }
+    ensures { Answers result (first_refused (stmt_lines (facts_of job.now) statement.now place)) }
+{
+    if let Some(fault) = fault_at(alloc, job, tables, place, statement)? {
+        return Err(CheckJob::Refused(fault, stmt_spot(place, job, statement)));
+    }
+    match statement {
+        Stmt::RoleOnly { body, .. } => {
+            check_stmts(alloc, job, tables, place.inside_when(), body.as_slice())
+        }
+        Stmt::Branch { yes, no, .. } => {
+            check_stmts(alloc, job, tables, place.inside_if(), yes.as_slice())?;
+            match no {
+                Some(no) => check_stmts(alloc, job, tables, place.inside_if(), no.as_slice()),
+                None => Ok(()),
+            }
+        }
+        Stmt::Loop { body, .. } => {
+            check_stmts(alloc, job, tables, place.inside_for(), body.as_slice())
+        }
+        _ => Ok(()),
+    }
+}

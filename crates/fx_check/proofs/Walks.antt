@@ -1,0 +1,151 @@
+-- The first refusal of lists of lines, and the lines of blocks.
+use Rattle.std.proofs.Common.{◌≡◌, ℕ, ◌+◌, ◌<◌, Bool, true, false, not, ◌&&◌, List, [], ◌∷◌, ◌++◌, map, length, drop, get_or, add-one, drop-cons, Option, Some, None, Result, Ok, Err, refl, sym, ap, subst, ◌∙◌, append_assoc, inl, inr}
+use Rattle.std.proofs.lemmas.Bool.{cases_Bool, and_parts, ltb-true}
+use Rattle.std.proofs.lemmas.List.{append-nil}
+use Rattle.fx_base.specs.declared.names.Role.{Role}
+use Rattle.fx_base.specs.declared.spot.Spot.{Spot}
+use Rattle.std.specs.Prelude.{ℤ, nat_lt}
+use Rattle.fx_script.specs.declared.expr.Expr.{Expr}
+use Rattle.fx_script.specs.declared.job.Stmt.{Stmt}
+use Rattle.fx_script.specs.declared.job.Stmt.TheVariants as stmt
+use Rattle.fx_script.specs.declared.job.Stmt.TheOpen.{Stmt-F}
+use Rattle.fx_script.specs.declared.job.Stmt.TheFolds.{fold-roll-Stmt}
+use Rattle.fx_script.specs.declared.job.Test.{Test}
+use Rattle.fx_script.specs.Spelling.{chained}
+use Rattle.fx_check.specs.declared.fault.CheckJob.{CheckJob}
+use Rattle.fx_check.specs.declared.fault.CheckJob.TheVariants as check
+use Rattle.fx_check.specs.declared.fault.StaticFault.{StaticFault}
+use Rattle.fx_check.specs.declared.fault.StaticFault.TheVariants.{UnknownName, NameTwice, OutOfRange}
+use Rattle.fx_check.specs.declared.place.Place.{Place}
+use Rattle.fx_check.specs.Acceptance.{Line, Refused, stmt_line, line_of, lines_at, stmt_lines_level, stmt_lines, stmts_lines, fault_of, first_or, first_refused, Refuses, Answers}
+use Rattle.fx_check.specs.Facts.{Facts, or_first}
+use Rattle.fx_check.specs.Rules.{inside_when, inside_if, inside_for}
+
+-- ---- refusals
+
+or_of_or : (spot : Spot) (o : Option StaticFault) (a b : Option Refused) → first_or spot o (or_first a b) ≡ or_first (first_or spot o a) b
+or_of_or spot None a b = refl
+or_of_or spot (Some fault) a b = refl
+
+pub refused_append : (a b : List Line) → first_refused (a ++ b) ≡ or_first (first_refused a) (first_refused b)
+refused_append [] b = refl
+refused_append (l ∷ a) b = ap (first_or l.spot (fault_of l)) (refused_append a b) ∙ or_of_or l.spot (fault_of l) (first_refused a) (first_refused b)
+
+-- where the first lines give no refusal, the others do
+pub answers_on : {X : Type 0} (r : Result X CheckJob) (a b : List Line) → first_refused a ≡ None → Answers r (first_refused b) → Answers r (first_refused (a ++ b))
+answers_on r a b none then =
+    let same : first_refused (a ++ b) ≡ first_refused b = refused_append a b ∙ ap (λ (o : Option Refused). or_first o (first_refused b)) none in
+    subst (λ (o : Option Refused). Answers r o) (sym same) then
+
+-- a refusal of the first lines is that of all
+pub answers_stop : (e : CheckJob) (a b : List Line) → Refuses e (first_refused a) → Refuses e (first_refused (a ++ b))
+answers_stop (check.Refused fault spot) a b is = refused_append a b ∙ ap (λ (o : Option Refused). or_first o (first_refused b)) is
+answers_stop check.NoMemory a b is = tt
+
+-- ---- the lines of blocks
+
+lines_map : (f : Facts) (ss : List Stmt) (p : Place) → lines_at (map (stmt_lines f) ss) p ≡ stmts_lines f ss p
+lines_map f [] p = refl
+lines_map f (s ∷ ss) p = ap (λ (l : List Line). stmt_lines f s p ++ l) (lines_map f ss p)
+
+pub when_lines : (f : Facts) (p : Place) (s : Stmt) (spot : Spot) (role : Role) (body : List Stmt) → s ≡ stmt.RoleOnly spot role body → stmt_lines f s p ≡ line_of f p s ∷ stmts_lines f body (inside_when p)
+when_lines f p s spot role body is =
+    let x : Stmt-F Stmt = Stmt-F.RoleOnly spot role body in
+    let rolled = is ∙ sym (stmt.rolls-RoleOnly spot role body) in
+    ap (λ (t : Stmt). stmt_lines f t p) rolled ∙ ap (λ (l : Place → List Line). l p) (fold-roll-Stmt (Place → List Line) (stmt_lines_level f) x)
+    ∙ ap (λ (l : List Line). stmt_line f p x ∷ l) (lines_map f body (inside_when p))
+    ∙ ap (λ (l : Line). l ∷ stmts_lines f body (inside_when p)) (sym (ap (line_of f p) rolled ∙ fold-roll-Stmt Line (stmt_line f p) x))
+
+pub for_lines : (f : Facts) (p : Place) (s : Stmt) (spot : Spot) (counter : List ℕ) (first : Expr) (last : ℤ) (body : List Stmt) → s ≡ stmt.Loop spot counter first last body
+    → stmt_lines f s p ≡ line_of f p s ∷ stmts_lines f body (inside_for p)
+for_lines f p s spot counter first last body is =
+    let x : Stmt-F Stmt = Stmt-F.Loop spot counter first last body in
+    let rolled = is ∙ sym (stmt.rolls-Loop spot counter first last body) in
+    ap (λ (t : Stmt). stmt_lines f t p) rolled ∙ ap (λ (l : Place → List Line). l p) (fold-roll-Stmt (Place → List Line) (stmt_lines_level f) x)
+    ∙ ap (λ (l : List Line). stmt_line f p x ∷ l) (lines_map f body (inside_for p))
+    ∙ ap (λ (l : Line). l ∷ stmts_lines f body (inside_for p)) (sym (ap (line_of f p) rolled ∙ fold-roll-Stmt Line (stmt_line f p) x))
+
+pub if_lines : (f : Facts) (p : Place) (s : Stmt) (spot : Spot) (t : Test) (left right : Expr) (chosen other : List Stmt) (o : Option (List Stmt)) → s ≡ stmt.Branch spot t left right chosen o → o ≡ Some other
+    → stmt_lines f s p ≡ line_of f p s ∷ (stmts_lines f chosen (inside_if p) ++ stmts_lines f other (inside_if p))
+if_lines f p s spot t left right chosen other o is some =
+    let x : Stmt-F Stmt = Stmt-F.Branch spot t left right chosen (Some other) in
+    let rolled = is ∙ ap (λ (y : Option (List Stmt)). stmt.Branch spot t left right chosen y) some ∙ sym (stmt.rolls-Branch spot t left right chosen (Some other)) in
+    ap (λ (y : Stmt). stmt_lines f y p) rolled ∙ ap (λ (l : Place → List Line). l p) (fold-roll-Stmt (Place → List Line) (stmt_lines_level f) x)
+    ∙ ap (λ (l : List Line). stmt_line f p x ∷ (l ++ lines_at (map (stmt_lines f) other) (inside_if p))) (lines_map f chosen (inside_if p))
+    ∙ ap (λ (l : List Line). stmt_line f p x ∷ (stmts_lines f chosen (inside_if p) ++ l)) (lines_map f other (inside_if p))
+    ∙ ap (λ (l : Line). l ∷ (stmts_lines f chosen (inside_if p) ++ stmts_lines f other (inside_if p))) (sym (ap (line_of f p) rolled ∙ fold-roll-Stmt Line (stmt_line f p) x))
+
+-- what is behind the first line of a statement, which isn't refused, answers for all
+pub answers_behind : {X : Type 0} (r : Result X CheckJob) (l : Line) (ls all : List Line) → all ≡ l ∷ ls → fault_of l ≡ None → Answers r (first_refused ls) → Answers r (first_refused all)
+answers_behind r l ls all is none then =
+    let same : first_refused all ≡ first_refused ls = ap first_refused is ∙ ap (λ (o : Option StaticFault). first_or l.spot o (first_refused ls)) none in
+    subst (λ (o : Option Refused). Answers r o) (sym same) then
+
+pub refuses_behind : (e : CheckJob) (l : Line) (ls all : List Line) → all ≡ l ∷ ls → fault_of l ≡ None → Refuses e (first_refused ls) → Refuses e (first_refused all)
+refuses_behind e l ls all is none then =
+    let same : first_refused all ≡ first_refused ls = ap first_refused is ∙ ap (λ (o : Option StaticFault). first_or l.spot o (first_refused ls)) none in
+    subst (λ (o : Option Refused). Refuses e o) (sym same) then
+
+-- the lines of what is left of a list of statements
+pub lines_from : (f : Facts) (p : Place) (ss : List Stmt) (i : ℕ) (s : Stmt) → i < length ss → s ≡ get_or ss i s → stmts_lines f (drop i ss) p ≡ stmt_lines f s p ++ stmts_lines f (drop (i + 1) ss) p
+lines_from f p ss i s within is =
+    let from : drop i ss ≡ s ∷ drop (i + 1) ss = drop-cons ss i s within ∙ rw (← is, add-one) refl in
+    ap (λ (l : List Stmt). stmts_lines f l p) from
+
+pub if_alone_lines : (f : Facts) (p : Place) (s : Stmt) (spot : Spot) (t : Test) (left right : Expr) (chosen : List Stmt) (o : Option (List Stmt)) → s ≡ stmt.Branch spot t left right chosen o → o ≡ None
+    → stmt_lines f s p ≡ line_of f p s ∷ stmts_lines f chosen (inside_if p)
+if_alone_lines f p s spot t left right chosen o is none =
+    let x : Stmt-F Stmt = Stmt-F.Branch spot t left right chosen None in
+    let rolled = is ∙ ap (λ (y : Option (List Stmt)). stmt.Branch spot t left right chosen y) none ∙ sym (stmt.rolls-Branch spot t left right chosen None) in
+    ap (λ (y : Stmt). stmt_lines f y p) rolled ∙ ap (λ (l : Place → List Line). l p) (fold-roll-Stmt (Place → List Line) (stmt_lines_level f) x)
+    ∙ ap (λ (l : List Line). stmt_line f p x ∷ l) (append-nil (lines_at (map (stmt_lines f) chosen) (inside_if p)) ∙ lines_map f chosen (inside_if p))
+    ∙ ap (λ (l : Line). l ∷ stmts_lines f chosen (inside_if p)) (sym (ap (line_of f p) rolled ∙ fold-roll-Stmt Line (stmt_line f p) x))
+
+-- a branch's lines begin with those of its first list
+pub if_begins : (f : Facts) (p : Place) (s : Stmt) (spot : Spot) (t : Test) (left right : Expr) (chosen : List Stmt) (o : Option (List Stmt)) → s ≡ stmt.Branch spot t left right chosen o
+    → (rest : List Line) × (stmt_lines f s p ≡ line_of f p s ∷ (stmts_lines f chosen (inside_if p) ++ rest))
+if_begins f p s spot t left right chosen None is =
+    ([], if_alone_lines f p s spot t left right chosen None is refl ∙ ap (λ (l : List Line). line_of f p s ∷ l) (sym (append-nil (stmts_lines f chosen (inside_if p)))))
+if_begins f p s spot t left right chosen (Some other) is =
+    (stmts_lines f other (inside_if p), if_lines f p s spot t left right chosen other (Some other) is refl)
+
+-- ---- room
+
+none_roomy : (l : Line) → fault_of l ≡ None → l.roomy ≡ true
+none_roomy l none = elim (cases_Bool l.known) [
+  | inr n ↦ let e : Some UnknownName ≡ None = rw n at none in absurd cc
+  | inl k ↦ elim (cases_Bool l.once) [
+    | inr n ↦ let e : Some NameTwice ≡ None = rw (k, n) at none in absurd cc
+    | inl o ↦ elim (cases_Bool l.in_range) [
+      | inr n ↦ let e : Some OutOfRange ≡ None = rw (k, o, n) at none in absurd cc
+      | inl i ↦ elim (cases_Bool l.roomy) [
+        | inr n ↦ let e : Some OutOfRange ≡ None = rw (k, o, i, n) at none in absurd cc
+        | inl r ↦ r
+      ]
+    ]
+  ]
+]
+
+pub if_room : (f : Facts) (p : Place) (s : Stmt) (spot : Spot) (t : Test) (left right : Expr) (chosen : List Stmt) (o : Option (List Stmt)) → s ≡ stmt.Branch spot t left right chosen o
+    → fault_of (line_of f p s) ≡ None → p.blocks < 8
+if_room f p s spot t left right chosen o is none =
+    let x : Stmt-F Stmt = Stmt-F.Branch spot t left right chosen o in
+    let rolled = is ∙ sym (stmt.rolls-Branch spot t left right chosen o) in
+    let roomy : (nat_lt p.before 16 && nat_lt p.blocks 8) ≡ true = sym (ap (λ (y : Stmt). (line_of f p y).roomy) rolled ∙ ap (λ (l : Line). l.roomy) (fold-roll-Stmt Line (stmt_line f p) x)) ∙ none_roomy (line_of f p s) none in
+    ltb-true p.blocks 8 (and_parts (nat_lt p.before 16) (nat_lt p.blocks 8) roomy).1
+
+pub for_room : (f : Facts) (p : Place) (s : Stmt) (spot : Spot) (counter : List ℕ) (first : Expr) (last : ℤ) (body : List Stmt) → s ≡ stmt.Loop spot counter first last body
+    → fault_of (line_of f p s) ≡ None → (p.blocks < 8) × (p.loops < 4)
+for_room f p s spot counter first last body is none =
+    let x : Stmt-F Stmt = Stmt-F.Loop spot counter first last body in
+    let rolled = is ∙ sym (stmt.rolls-Loop spot counter first last body) in
+    let roomy : (nat_lt p.before 16 && nat_lt p.blocks 8 && nat_lt p.loops 4) ≡ true = sym (ap (λ (y : Stmt). (line_of f p y).roomy) rolled ∙ ap (λ (l : Line). l.roomy) (fold-roll-Stmt Line (stmt_line f p) x)) ∙ none_roomy (line_of f p s) none in
+    let both = and_parts (nat_lt p.before 16 && nat_lt p.blocks 8) (nat_lt p.loops 4) roomy in
+    (ltb-true p.blocks 8 (and_parts (nat_lt p.before 16) (nat_lt p.blocks 8) both.0).1, ltb-true p.loops 4 both.1)
+
+pub when_room : (f : Facts) (p : Place) (s : Stmt) (spot : Spot) (role : Role) (body : List Stmt) → s ≡ stmt.RoleOnly spot role body → fault_of (line_of f p s) ≡ None → p.blocks < 8
+when_room f p s spot role body is none =
+    let x : Stmt-F Stmt = Stmt-F.RoleOnly spot role body in
+    let rolled = is ∙ sym (stmt.rolls-RoleOnly spot role body) in
+    let roomy : (nat_lt p.before 16 && nat_lt p.blocks 8) ≡ true = sym (ap (λ (y : Stmt). (line_of f p y).roomy) rolled ∙ ap (λ (l : Line). l.roomy) (fold-roll-Stmt Line (stmt_line f p) x)) ∙ none_roomy (line_of f p s) none in
+    ltb-true p.blocks 8 (and_parts (nat_lt p.before 16) (nat_lt p.blocks 8) roomy).1
