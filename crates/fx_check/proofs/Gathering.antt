@@ -279,7 +279,6 @@ created_next ss i s old new b y within is same grew =
     let from : drop i ss ≡ s ∷ drop (i + 1) ss = drop-cons ss i s within ∙ rw (← is, add-one) refl in
     created_taken old new s (drop (i + 1) ss) b y (subst (λ (rest : List Stmt). SameCreated old (created_in rest) b y) from same) grew
 
-
 pub attached_next : (ss : List Stmt) (i : ℕ) (s : Stmt) (old new b y : List Attached) → i < length ss → s ≡ get_or ss i s → SameAttached old (attached_in (drop i ss)) b y → GrewAttached old new (attached_by s) → SameAttached new (attached_in (drop (i + 1) ss)) b y
 attached_next ss i s old new b y within is same grew =
     let from : drop i ss ≡ s ∷ drop (i + 1) ss = drop-cons ss i s within ∙ rw (← is, add-one) refl in

@@ -1,3 +1,6 @@
 pub mod Gathering
 pub mod FirstLines
 pub mod Walks
+pub mod CallbackLines
+pub mod Accepting
+pub mod Parts

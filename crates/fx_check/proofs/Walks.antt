@@ -42,6 +42,26 @@ pub answers_stop : (e : CheckJob) (a b : List Line) → Refuses e (first_refused
 answers_stop (check.Refused fault spot) a b is = refused_append a b ∙ ap (λ (o : Option Refused). or_first o (first_refused b)) is
 answers_stop check.NoMemory a b is = tt
 
+pub refuses_on : (e : CheckJob) (a b : List Line) → first_refused a ≡ None → Refuses e (first_refused b) → Refuses e (first_refused (a ++ b))
+refuses_on e a b none then =
+    let same : first_refused (a ++ b) ≡ first_refused b = refused_append a b ∙ ap (λ (o : Option Refused). or_first o (first_refused b)) none in
+    subst (λ (o : Option Refused). Refuses e o) (sym same) then
+
+pub none_append : (a b : List Line) → first_refused a ≡ None → first_refused b ≡ None → first_refused (a ++ b) ≡ None
+none_append a b first then = refused_append a b ∙ ap (λ (o : Option Refused). or_first o (first_refused b)) first ∙ then
+
+-- one line
+pub one_fine : (l : Line) → fault_of l ≡ None → first_refused (l ∷ []) ≡ None
+one_fine l none = ap (λ (o : Option StaticFault). first_or l.spot o None) none
+
+-- a loop over lines: what is left is refused as all are
+pub loop_stops : (e : CheckJob) (a b whole all : List Line) → whole ≡ a ++ b → first_refused whole ≡ first_refused all → Refuses e (first_refused a) → Refuses e (first_refused all)
+loop_stops e a b whole all is same refuses = subst (λ (o : Option Refused). Refuses e o) (ap first_refused (sym is) ∙ same) (answers_stop e a b refuses)
+
+pub loop_goes_on : (a b whole all : List Line) → whole ≡ a ++ b → first_refused whole ≡ first_refused all → first_refused a ≡ None → first_refused b ≡ first_refused all
+loop_goes_on a b whole all is same none =
+    sym (ap (λ (o : Option Refused). or_first o (first_refused b)) none) ∙ sym (refused_append a b) ∙ ap first_refused (sym is) ∙ same
+
 -- ---- the lines of blocks
 
 lines_map : (f : Facts) (ss : List Stmt) (p : Place) → lines_at (map (stmt_lines f) ss) p ≡ stmts_lines f ss p

@@ -167,11 +167,8 @@ event_lines procs before (e ∷ es) = plain_line e.spot true (is_event_in_range 
 -- the lines of a job of which a rule speaks, in their order
 abbrev pub lines_of : Job → List Line
 lines_of job =
-    head_lines job
-    ++ decl_lines [] job.names
-    ++ callbacks_lines (facts_of job) [] job.callbacks
-    ++ stmts_lines (facts_of job) job.body body_place
-    ++ event_lines (procs_of job) 0 job.events
+    head_lines job ++ (decl_lines [] job.names ++ (callbacks_lines (facts_of job) [] job.callbacks
+    ++ (stmts_lines (facts_of job) job.body body_place ++ event_lines (procs_of job) 0 job.events)))
 
 -- ---- acceptance
 
@@ -232,3 +229,9 @@ Refuses check.NoMemory refusal = Unit {0}
 abbrev pub Answers : {X : Type 0} → Result X CheckJob → Option Refused → Type 0
 Answers (Ok x) refusal = refusal ≡ None
 Answers (Err e) refusal = Refuses e refusal
+
+-- the answer isn't a refusal
+abbrev pub IsUnrefused : {X : Type 0} → Result X CheckJob → Type 0
+IsUnrefused (Ok x) = Unit {0}
+IsUnrefused (Err (check.Refused fault spot)) = ⊥
+IsUnrefused (Err check.NoMemory) = Unit {0}

@@ -2,8 +2,11 @@
 #![tactic(auto)]
 
 mod accepted;
+mod called;
+mod check;
 mod exprs;
 mod fault;
+mod head;
 mod inside;
 mod lookup;
 mod place;
@@ -14,4 +17,5 @@ mod walk;
 mod work;
 
 pub use accepted::Accepted;
+pub use check::check_job;
 pub use fault::{CheckJob, StaticFault};

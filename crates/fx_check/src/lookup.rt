@@ -50,7 +50,9 @@ pub fn array_in(names: &[Decl], name: &[u8]) -> Option<i64>
     ensures { result ≡ array_in names.now name.now }
 {
     for decl in names {
-        if let Decl::Array { name: own, len, .. } = decl && own.as_slice() == name {
+        if let Decl::Array { name: own, len, .. } = decl
+            && own.as_slice() == name
+        {
             return Some(*len);
         }
     }

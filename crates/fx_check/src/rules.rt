@@ -4,7 +4,9 @@ ghost use Rattle.fx_check.specs.Facts.{AreTables, array_in, facts_of, has_member
 ghost use Rattle.fx_check.specs.Rules.{expr_alike, expr_groups, is_same_attachment, is_same_creation};
 
 use crate::exprs::{expr_alike, expr_groups, expr_known, expr_uniform, has_group};
-use crate::lookup::{array_in, attachment_of, creation_of, is_array, is_called, is_counter, is_value};
+use crate::lookup::{
+    array_in, attachment_of, creation_of, is_array, is_called, is_counter, is_value,
+};
 use crate::place::Place;
 use crate::range::{are_alike, is_between, is_index_if, picked_fits_32};
 use crate::tables::{Tables, is_eighth};
@@ -12,13 +14,18 @@ use fx_script::{Expr, Job, Stmt};
 
 /// The greatest start stamp, depth, distance of a shift and last value of a loop.
 const LAST_START: u32 = 1_000_000_000;
+
 const LAST_DEPTH: u32 = 15;
+
 const LAST_SHIFT: u32 = 15;
+
 const LAST_TURN: u32 = 9_999;
 
 /// How many blocks and loops may stand in one another, and how many statements a callback may have.
 const MOST_BLOCKS: u32 = 8;
+
 const MOST_LOOPS: u32 = 4;
+
 const MOST_CALLED: u64 = 16;
 
 /// Whether a statement names only what is declared, each as the kind that is needed.
@@ -90,15 +97,16 @@ pub fn is_in_range(job: &Job, place: Place, statement: &Stmt) -> bool
 {
     let names = job.names.as_slice();
     match statement {
-        Stmt::Let { array, value, .. } => {
-            is_let_in_range(job, array.as_slice(), value)
-        }
+        Stmt::Let { array, value, .. } => { is_let_in_range(job, array.as_slice(), value) }
         Stmt::Set { value, .. } => expr_groups(value),
         Stmt::Branch { left, right, .. } => expr_groups(left) && expr_groups(right),
         Stmt::Loop { first, last, .. } => expr_groups(first) && is_between(0, LAST_TURN, *last),
         Stmt::Agree { array, index, .. } => is_index_if(array_in(names, array.as_slice()), *index),
         Stmt::Shift {
-            source, target, by, ..
+            source,
+            target,
+            by,
+            ..
         } => {
             is_between(1, LAST_SHIFT, *by)
                 && are_alike(
@@ -153,9 +161,7 @@ pub fn has_room(job: &Job, place: Place, statement: &Stmt) -> bool
     let called = place.before < MOST_CALLED;
     match statement {
         Stmt::RoleOnly { .. } | Stmt::Branch { .. } => called && place.blocks < MOST_BLOCKS,
-        Stmt::Loop { .. } => {
-            called && place.blocks < MOST_BLOCKS && place.loops < MOST_LOOPS
-        }
+        Stmt::Loop { .. } => { called && place.blocks < MOST_BLOCKS && place.loops < MOST_LOOPS }
         _ => called,
     }
 }

@@ -107,10 +107,7 @@ fn add_created(created: &mut Seq<Created>, more: Created) -> Result<(), NoMemory
 pub fn first_created(created: &[Created], group: i64) -> Option<Created>
     ensures { result ≡ first_created created.now group }
 {
-    created
-        .iter()
-        .copied()
-        .find(|other| other.group == group)
+    created.iter().copied().find(|other| other.group == group)
 }
 
 // ---- members

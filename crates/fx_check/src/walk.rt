@@ -5,7 +5,9 @@ ghost use Rattle.fx_check.specs.Facts.{AreTables, facts_of};
 use crate::fault::{CheckJob, StaticFault};
 use crate::inside::stores_inside;
 use crate::place::Place;
-use crate::rules::{agrees_on_group, agrees_on_member, has_room, is_in_range, is_known, is_placed, is_uniform};
+use crate::rules::{
+    agrees_on_group, agrees_on_member, has_room, is_in_range, is_known, is_placed, is_uniform,
+};
 use crate::tables::Tables;
 use fx_base::{NoMemory, Spot};
 use fx_script::{Job, Stmt};
