@@ -12,3 +12,5 @@ pub mod Spelled
 pub mod Placed
 pub mod ExprSteps
 pub mod PairSteps
+pub mod CanonLines
+pub mod CanonAlone
