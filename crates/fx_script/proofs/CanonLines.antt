@@ -12,7 +12,7 @@ use Rattle.fx_text.specs.Words.{Word, begins_word, longer, words_from, words_of}
 use Rattle.fx_text.proofs.Positions.{found_nowhere}
 use Rattle.fx_script.specs.declared.job.Job.{Job}
 use Rattle.fx_script.specs.Comments.{is_comment}
-use Rattle.fx_script.specs.Reading.{Met, met_of, met_in, spot_of, soundness, sound}
+use Rattle.fx_script.specs.Reading.{Met, met_of, met_in, spot_of, soundness}
 use Rattle.fx_script.specs.Spelling.{Entry, job_entries, bytes_of, IsLine, AreLines, if_met, met_from, IsSound, IsWritable, Spells}
 use Rattle.fx_script.specs.Canonical.{spaced, line_of, text_of, canonical}
 use Rattle.fx_script.proofs.Placed.{spot_at, placed, placed_from}
@@ -33,28 +33,31 @@ abbrev pub is_said : List (List ℕ) → Bool
 is_said [] = false
 is_said (w ∷ ws) = not (eqb (slice_index w 0) 35)
 
--- words that a line can hold which says something
+-- the words of a line that says something and is neither unprintable nor too long
 pub record IsGoodLine (ws : List (List ℕ)) : Type 0 where
   pub words : list_all is_word ws ≡ true
   pub said : is_said ws ≡ true
   pub short : length (line_of ws) ≤ 1024
 
+-- lines that say something, each of which can be written
 abbrev pub AreGoodLines : List Entry → Type 0
 AreGoodLines es = AllByRecursion (λ e. IsGoodLine e.words) es
 
+-- a word's bytes
 word_bytes : (w : List ℕ) → is_word w ≡ true → list_all is_word_byte w ≡ true
 word_bytes [] e = absurd cc
 word_bytes (b ∷ bs) e = e
 
 -- ---- the words of a sound line
 
+-- a byte of a word makes the next word longer, or is one
 longer_words : (c b : ℕ) (ws : List Word) → is_word_byte b ≡ true → list_all is_word (map bytes_of ws) ≡ true → list_all is_word (map bytes_of (longer c b ws)) ≡ true
 longer_words c b [] byte good = rw byte refl
 longer_words c b (w ∷ ws) byte good =
     let parts = and_parts (is_word w.bytes) (list_all is_word (map bytes_of ws)) good in
     and_from (is_word (b ∷ w.bytes)) (list_all is_word (map bytes_of ws)) (and_from (is_word_byte b) (list_all is_word_byte w.bytes) byte (word_bytes w.bytes parts.0)) parts.1
 
--- the words of a line with printable bytes
+-- the words of a printable line are words
 words_good : (c : ℕ) (line : List ℕ) → list_all is_printable line ≡ true → list_all is_word (map bytes_of (words_from c line)) ≡ true
 words_good c [] p = refl
 words_good c (b ∷ bs) p =
@@ -70,7 +73,7 @@ words_good c (b ∷ bs) p =
           ]
     ]
 
--- the line of the words is no longer than the line that they are of
+-- how long the line of these words is
 abbrev words_length : List Word → ℕ
 words_length ws = length (line_of (map bytes_of ws))
 
@@ -82,6 +85,7 @@ spaced_length : (ws : List (List ℕ)) → length (spaced ws) ≤ 1 + length (li
 spaced_length [] = omega arith
 spaced_length (w ∷ ws) = omega arith
 
+-- a line is as long as the line of its words, at least
 words_within : (c : ℕ) (line : List ℕ) → words_length (words_from c line) ≤ length line
 words_within c [] = omega arith
 words_within c (b ∷ []) = elim (cases_Bool (eqb b 32)) [ inl t ↦ rw t (omega arith) | inr f ↦ rw f (omega arith) ]
@@ -101,6 +105,7 @@ words_within c (b ∷ d ∷ ds) = elim (cases_Bool (eqb b 32)) [
 
 -- ---- lines that pass their check
 
+-- where no byte is unprintable, each is printable
 abbrev is_unprintable : ℕ → Bool
 is_unprintable b = not (is_printable b)
 
@@ -111,6 +116,7 @@ none_unprintable (b ∷ bs) e = elim (cases_Bool (is_printable b)) [
   | inr f ↦ let none : 0 ≡ length (b ∷ bs) = rw f at e in absurd (omega arith)
 ]
 
+-- a line that passes is printable, and not too long
 fault_parts : (line : List ℕ) (o : Option ℕ) → position is_unprintable line ≡ o → fault_at o (length line) ≡ Ok tt → (list_all is_printable line ≡ true) × (length line ≤ 1024)
 fault_parts line None is e = elim (cases_Bool (ltb 1024 (length line))) [
   | inl t ↦ let long = rw t at e in absurd cc
@@ -121,6 +127,7 @@ fault_parts line (Some place) is e = absurd cc
 checked_parts : (line : List ℕ) → checked line ≡ Ok tt → (list_all is_printable line ≡ true) × (length line ≤ 1024)
 checked_parts line e = fault_parts line (position is_unprintable line) refl e
 
+-- a printable line that is not too long passes
 all_printable : (line : List ℕ) → list_all is_printable line ≡ true → position_or_len is_unprintable line ≡ length line
 all_printable [] e = refl
 all_printable (b ∷ bs) e =
@@ -132,6 +139,7 @@ checked_from line printable short =
     let none : position is_unprintable line ≡ None = rw (le-ltb (position_or_len is_unprintable line) (length line) (omega (arith, all_printable line printable))) refl in
     rw (none, le-ltb 1024 (length line) short) refl
 
+-- a sound line passes
 sound_parts : (r : Result (Unit {0}) LineFault) (ended : Bool) (past : ℕ) → soundness r ended past ≡ Ok tt → r ≡ Ok tt
 sound_parts (Ok fine) ended past e = refl
 sound_parts (Err (line_fault.NotAscii column)) ended past e = absurd cc
@@ -139,6 +147,7 @@ sound_parts (Err line_fault.TooLong) ended past e = absurd cc
 
 -- ---- what is met in sound lines
 
+-- what is met in one line is a good line, and so is what is met in the others
 one_met : (number past : ℕ) (w : Word) (ws : List Word) (ms : List Met) (es : List Entry)
     → list_all is_word (map bytes_of (w ∷ ws)) ≡ true → words_length (w ∷ ws) ≤ 1024 → is_comment w ≡ false
     → AreLines (record { number = number; first = w; left = record { words = ws; past = past } } ∷ ms) es
@@ -173,6 +182,7 @@ lines_good number (l ∷ ls) es sounds lines =
 
 -- ---- a line of words, and its words
 
+-- a line of words is printable
 word_printable : (w : List ℕ) → list_all is_word_byte w ≡ true → list_all is_printable w ≡ true
 word_printable [] e = refl
 word_printable (b ∷ bs) e =
@@ -213,6 +223,7 @@ word_in_front c (b ∷ d ∷ ds) rest e ends =
     let column : c + 1 + length (d ∷ ds) ≡ c + length (b ∷ d ∷ ds) = omega arith in
     goes ∙ ap (longer c b) (word_in_front (c + 1) (d ∷ ds) rest parts.1 ends) ∙ rw column refl
 
+-- no word goes on where a word ends
 none_begins : (ws : List (List ℕ)) → begins_word (spaced ws) ≡ false
 none_begins [] = refl
 none_begins (w ∷ ws) = refl
@@ -226,6 +237,7 @@ words_spaced c (w ∷ ws) e =
 
 -- ---- the lines of a text of entries
 
+-- a printable line ends at the first line end behind it
 printable_ends_not : (b : ℕ) → is_printable b ≡ true → eqb b 10 ≡ false
 printable_ends_not b e =
     let parts = and_parts (leb 32 b) (leb b 126) e in
@@ -242,6 +254,7 @@ line_ended (b ∷ bs) rest e =
 abbrev pub written : Entry → Line
 written e = record { bytes = line_of e.words; ended = true }
 
+-- the lines of a text of entries are the entries' lines
 text_lines : (es : List Entry) → AreGoodLines es → lines_of (text_of es) ≡ map written es
 text_lines [] good = refl
 text_lines (e ∷ es) good =
@@ -249,11 +262,12 @@ text_lines (e ∷ es) good =
 
 -- ---- what these lines say
 
+-- they are sound
 written_sound : (es : List Entry) → AreGoodLines es → AllByRecursion IsSound (map written es)
 written_sound [] good = tt
 written_sound (e ∷ es) good = (rw (checked_from (line_of e.words) (line_printable e.words good.0.words) good.0.short) refl, written_sound es good.1)
 
--- what is met in the line of words
+-- what is met in a line of words
 abbrev met_first : ℕ → List ℕ → List (List ℕ) → Met
 met_first n w ws = record { number = n; first = record { column = 1; bytes = w }; left = record { words = words_from (1 + length w) (spaced ws); past = length (line_of (w ∷ ws)) + 1 } }
 
@@ -262,6 +276,7 @@ met_written n w ws good =
     let parts = and_parts (is_word w) (list_all is_word ws) good.words in
     rw (word_in_front 1 w (spaced ws) parts.0 (none_begins ws), not-true (eqb (slice_index w 0) 35) good.said) refl
 
+-- it is the entry, at the spot where the line stands
 spot_is : (n : ℕ) (w : List ℕ) (ws : List (List ℕ)) (o : Option Spot) → IfSome (spot_at n o) (λ spot. spot ≡ spot_of (met_first n w ws))
 spot_is n w ws None = tt
 spot_is n w ws (Some spot) = refl
@@ -276,10 +291,12 @@ met_placed : (n : ℕ) (o : Option Spot) (words : List (List ℕ)) (ms : List Me
 met_placed n o [] ms es good lines = absurd (let no = good.said in cc)
 met_placed n o (w ∷ ws) ms es good lines = rw (met_written n w ws good) (placed_line n o w ws good, lines)
 
+-- what is met in the lines, one after another
 written_placed : (n : ℕ) (es : List Entry) → AreGoodLines es → AreLines (met_from n (map written es)) (placed_from n es)
 written_placed n [] good = tt
 written_placed n (e ∷ es) good = met_placed n e.spot e.words (met_from (n + 1) (map written es)) (placed_from (n + 1) es) good.0 (written_placed (n + 1) es good.1)
 
+-- the same of the text
 text_sound : (es : List Entry) → AreGoodLines es → AllByRecursion IsSound (lines_of (text_of es))
 text_sound es good = rw (text_lines es good) (written_sound es good)
 
