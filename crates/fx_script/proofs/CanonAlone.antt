@@ -2,7 +2,9 @@
 use Rattle.std.proofs.Common.{◌≡◌, ℕ, List, ap, subst, ◌∙◌}
 use Rattle.fx_script.specs.declared.job.Job.{Job}
 use Rattle.fx_script.specs.Spelling.{Spells}
-use Rattle.fx_script.specs.Canonical.{canonical, aside, SpellsAlone}
+use Rattle.fx_script.specs.Canonical.{canonical, aside, HasText, SpellsAlone}
+use Rattle.fx_script.proofs.CanonLines.{canonical_spells}
+use Rattle.fx_script.proofs.Respotted.{canonical_aside, Respotted, job_respotted}
 use Rattle.fx_script.proofs.Spelled.{one_job}
 
 -- a canonical text that spells a job again spells no other
@@ -14,3 +16,12 @@ spells_alone text told job again spells same is =
       spelled = spelled;
       alone = λ other others. ap aside (one_job (canonical job) other again others spelled) ∙ same;
     }
+
+-- the canonical text of a job that, spots aside, some text spells
+pub canonical_alone : (job : Job) → HasText job → SpellsAlone (canonical job) job
+canonical_alone job has =
+    let text = has.0 in
+    let told = has.1 in
+    let respotted : Respotted told = job_respotted told in
+    let spells = canonical_spells text told respotted.again has.2 respotted.entries (respotted.writable has.2.writable) in
+    spells_alone text told job respotted.again spells (respotted.same ∙ has.3) (canonical_aside told job has.3)
