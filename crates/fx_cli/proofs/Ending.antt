@@ -5,7 +5,6 @@ use Rattle.fx_base.specs.declared.spot.Spot.{Spot}
 use Rattle.fx_io.specs.Told.{Loses, IsAtEnd, Gains}
 use Rattle.fx_script.specs.declared.job.Job.{Job}
 use Rattle.fx_script.specs.Reading.{Refusal, reading, job_in}
-use Rattle.fx_script.specs.Spelling.{Spells}
 use Rattle.fx_script.proofs.CanonAlone.{canonical_alone}
 use Rattle.fx_script.proofs.Spelled.{is_read, job_found}
 use Rattle.fx_check.specs.Acceptance.{Refused, refusal_of}
