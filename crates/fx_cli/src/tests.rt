@@ -9,6 +9,9 @@ use std::test::Fail;
 const TWO_PRINTS: &str =
     "fenix 1\nranks 1\nspares 0\nseparation 1\narray a 3\nbegin\nprint a\nprint a\nend\nschedule\nstop\n";
 
+const JOURNAL: &str =
+    "join 0 1 start\nrepaired 0 1 1 full : 0=0\ninit 0 1 initial 0 0 1 full\nprint 0 1 a : 0 0 0\nprint 0 1 a : 0 0 0\njoin 0 2 final\nended 0\n";
+
 const TWO_RANKS: &str =
     "fenix 1\nranks 2\nspares 0\nseparation 1\narray a 3\nbegin\nprint a\nprint a\nend\nschedule\nstop\n";
 
@@ -62,18 +65,32 @@ fn unbuilt(line: u32) -> Status {
     Status::BadJob(Refusal::NotBuilt, Spot { line, column: 1 })
 }
 
+fn answer_to(alloc: Global, words: &str, text: &str) -> Result<(Status, SureSink), Fail> {
+    let words = words_of(alloc, words)?;
+    let text = bytes_of(alloc, text)?;
+    Ok(fenix_in_memory(alloc, words.as_slice(), text))
+}
+
+#[test]
+fn other_words_are_refused(rt: HostRuntime) -> Result<(), Fail> {
+    let alloc = rt.alloc();
+    for words in ["run run", "walk", "run check", "checks", ""] {
+        let (ended, sink) = answer_to(alloc, words, TWO_PRINTS)?;
+        assert_eq!(rt; ended, Status::BadWords, "at {words}");
+        assert_eq!(rt;
+            sink.written().as_slice(),
+            b"fenix: bad words\n".as_slice(),
+            "at {words}"
+        );
+    }
+    Ok(())
+}
+
 #[test]
 fn texts_are_answered(rt: HostRuntime) -> Result<(), Fail> {
     let alloc = rt.alloc();
-    let journal =
-        "join 0 1 start\nrepaired 0 1 1 full : 0=0\ninit 0 1 initial 0 0 1 full\nprint 0 1 a : 0 0 0\nprint 0 1 a : 0 0 0\njoin 0 2 final\nended 0\n";
-    let bad_words = "fenix: bad words\n";
     for (words, text, status, output) in [
-        ("run", TWO_PRINTS, Status::Done, journal),
-        ("run run", TWO_PRINTS, Status::BadWords, bad_words),
-        ("walk", TWO_PRINTS, Status::BadWords, bad_words),
-        ("run check", TWO_PRINTS, Status::BadWords, bad_words),
-        ("", TWO_PRINTS, Status::BadWords, bad_words),
+        ("run", TWO_PRINTS, Status::Done, JOURNAL),
         (
             "run",
             TWO_RANKS,
@@ -99,8 +116,7 @@ fn texts_are_answered(rt: HostRuntime) -> Result<(), Fail> {
             "fenix: bad job: BadLine at 11:5\n",
         ),
     ] {
-        let words = words_of(alloc, words)?;
-        let (ended, sink) = fenix_in_memory(alloc, words.as_slice(), bytes_of(alloc, text)?);
+        let (ended, sink) = answer_to(alloc, words, text)?;
         assert_eq!(rt; ended, status, "at {output}");
         assert_eq!(rt; sink.written().as_slice(), output.as_bytes(), "at {output}");
     }
@@ -138,8 +154,7 @@ fn jobs_are_checked(rt: HostRuntime) -> Result<(), Fail> {
             "fenix: bad job: BadLine at 11:5\n",
         ),
     ] {
-        let words = words_of(alloc, words)?;
-        let (ended, sink) = fenix_in_memory(alloc, words.as_slice(), bytes_of(alloc, text)?);
+        let (ended, sink) = answer_to(alloc, words, text)?;
         assert_eq!(rt; ended, status, "at {output}");
         assert_eq!(rt; sink.written().as_slice(), output.as_bytes(), "at {output}");
     }
