@@ -1,4 +1,5 @@
-//! Runs a job: `fenix run` reads it from standard input and writes its journal to standard output.
+//! Runs or checks a job: `fenix run` reads it from standard input and writes its journal to standard output, and
+//! `fenix check` writes its canonical text.
 #![tactic(auto)]
 
 use fx_cli::code;

@@ -4,3 +4,4 @@ pub mod Texts
 pub mod Marks
 pub mod Ending
 pub mod InMemory
+pub mod PrintedArrays

@@ -6,13 +6,18 @@ use Rattle.fx_io.specs.Faults.{Rose}
 use Rattle.fx_io.proofs.Joined.{gains_more}
 use Rattle.fx_cli.specs.declared.put.Cut.{Cut}
 use Rattle.fx_cli.specs.declared.put.Cut.TheVariants as cut
+use Rattle.fx_cli.specs.declared.mode.Mode.{Mode}
+use Rattle.fx_cli.specs.declared.status.Status.{Status}
 use Rattle.fx_cli.specs.declared.status.Status.TheVariants as status
 use Rattle.fx_base.specs.declared.spot.Spot.{Spot}
 use Rattle.fx_script.specs.declared.job.Job.{Job}
+use Rattle.fx_check.specs.declared.fault.StaticFault.{StaticFault}
+use Rattle.fx_check.specs.Acceptance.{Refused}
 use Rattle.fx_cli.specs.declared.status.Refusal.{Refusal}
+use Rattle.fx_cli.specs.declared.status.Refusal.TheVariants.{Static}
 use Rattle.fx_cli.specs.Answers.{refusal_line}
 use Rattle.fx_cli.specs.Built.{plan_of}
-use Rattle.fx_cli.specs.Dues.{due_refusal, due_to_job}
+use Rattle.fx_cli.specs.Dues.{due_refusal, due_to_job, due_to_run}
 use Rattle.fx_cli.specs.Items.{text_of}
 use Rattle.fx_cli.specs.Plan.{journal_of}
 use Rattle.fx_cli.specs.Ends.{Puts, Settles, settled}
@@ -89,10 +94,24 @@ settles_refusal refusal spot a b f g (Ok done) p = (refl, p.0, p.1)
 settles_refusal refusal spot a b f g (Err cut.WriteFault) p = p
 settles_refusal refusal spot a b f g (Err cut.NoMemory) p = p
 
--- a journal, and that it is done
+-- what is written whole, and that it is done
+pub settles_done : (output : List ℕ) (a b : Option (List ℕ)) (f g : ℕ) (put : Result (Unit {0}) Cut) →
+    Puts a b f g output put → Settles (record { status = status.Done; output = output }) a b f g (settled put status.Done)
+settles_done output a b f g (Ok done) p = (refl, p.0, p.1)
+settles_done output a b f g (Err cut.WriteFault) p = p
+settles_done output a b f g (Err cut.NoMemory) p = p
+
+-- a journal, where each line can be run
 pub settles_run : (job : Job) (o : Option Spot) (a b : Option (List ℕ)) (f g : ℕ) (put : Result (Unit {0}) Cut) → o ≡ None →
-    Puts a b f g (text_of (journal_of (plan_of job))) put → Settles (due_to_job job o) a b f g (settled put status.Done)
-settles_run job None a b f g (Ok done) e p = (refl, p.0, p.1)
-settles_run job None a b f g (Err cut.WriteFault) e p = p
-settles_run job None a b f g (Err cut.NoMemory) e p = p
+    Puts a b f g (text_of (journal_of (plan_of job))) put → Settles (due_to_run job o) a b f g (settled put status.Done)
+settles_run job None a b f g put e p = settles_done (text_of (journal_of (plan_of job))) a b f g put p
 settles_run job (Some spot) a b f g put e p = absurd cc
+
+-- a job that breaks a rule, and the line of its refusal
+pub settles_broken : (asked : Mode) (job : Job) (o : Option Refused) (told fault : StaticFault) (place spot : Spot) (a b : Option (List ℕ)) (f g : ℕ) (s : Status) →
+    told ≡ fault → place ≡ spot → o ≡ Some (record { fault = fault; spot = spot }) →
+    Settles (due_refusal (Static told) place) a b f g s → Settles (due_to_job asked job o) a b f g s
+settles_broken asked job o told fault place spot a b f g s same there broken settles =
+    subst (λ (r : Option Refused). Settles (due_to_job asked job r) a b f g s) (sym broken)
+    (subst (λ (t : StaticFault). Settles (due_refusal (Static t) spot) a b f g s) same
+    (subst (λ (p : Spot). Settles (due_refusal (Static told) p) a b f g s) there settles))

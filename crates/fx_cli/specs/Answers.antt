@@ -2,9 +2,10 @@
 use Rattle.std.specs.Prelude.{◌≡◌, ℕ, List, [], ◌∷◌, ◌++◌, codes, refl}
 use Rattle.std.specs.Fmt.{digits, decimal}
 use Rattle.fx_base.specs.declared.spot.Spot.{Spot}
+use Rattle.fx_check.specs.declared.fault.StaticFault.TheVariants.{UnknownName, NameTwice, OutOfRange, NotUniform, Misplaced, GroupDiffers, MemberDiffers, SubsetOutside, TooMuchWork}
 use Rattle.fx_script.specs.declared.refusal.JobFault.TheVariants.{NotAscii, LineTooLong, BadLine, BadNumber, MissingPart, TrailingText}
 use Rattle.fx_cli.specs.declared.status.Refusal.{Refusal}
-use Rattle.fx_cli.specs.declared.status.Refusal.TheVariants.{TooBig, Text, NotBuilt}
+use Rattle.fx_cli.specs.declared.status.Refusal.TheVariants.{TooBig, Text, Static, NotBuilt}
 use Rattle.fx_cli.specs.declared.status.Status.{Status}
 use Rattle.fx_cli.specs.declared.status.Status.TheVariants.{Done, BadWords, BadJob, ReadFault, WriteFault, NoMemory}
 
@@ -26,9 +27,18 @@ reason_of (Text BadLine) = codes "BadLine"
 reason_of (Text BadNumber) = codes "BadNumber"
 reason_of (Text MissingPart) = codes "MissingPart"
 reason_of (Text TrailingText) = codes "TrailingText"
+reason_of (Static UnknownName) = codes "UnknownName"
+reason_of (Static NameTwice) = codes "NameTwice"
+reason_of (Static OutOfRange) = codes "OutOfRange"
+reason_of (Static NotUniform) = codes "NotUniform"
+reason_of (Static Misplaced) = codes "Misplaced"
+reason_of (Static GroupDiffers) = codes "GroupDiffers"
+reason_of (Static MemberDiffers) = codes "MemberDiffers"
+reason_of (Static SubsetOutside) = codes "SubsetOutside"
+reason_of (Static TooMuchWork) = codes "TooMuchWork"
 reason_of NotBuilt = codes "NotBuilt"
 
--- the line for words that aren't the one word `run`, with its line end
+-- the line for words that name no mode, with its line end
 abbrev pub words_line : List ℕ
 words_line = codes "fenix: bad words" ++ (10 ∷ [])
 

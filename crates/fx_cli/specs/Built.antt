@@ -1,7 +1,6 @@
--- Which jobs are run so far, and what they come to.
-use Rattle.std.specs.Prelude.{◌≡◌, ℕ, ◌+◌, ℤ, pos, negsuc, Bool, false, not, ◌&&◌, nat_le, nat_lt, if◌then◌else◌, List, [], ◌∷◌, ◌++◌, length, map, codes, Option, Some, None, refl}
-use Rattle.std.specs.List.{list_any}
-use Rattle.std.specs.Str.{bytes_eq}
+-- Which accepted jobs are run so far, and what they come to.
+use Rattle.std.specs.Prelude.{◌≡◌, ℕ, ℤ, pos, negsuc, Bool, true, false, if◌then◌else◌, List, [], ◌∷◌, ◌++◌, map, codes, Option, Some, None, refl}
+use Rattle.std.specs.Ordering.{int_eq}
 use Rattle.fx_base.specs.declared.spot.Spot.{Spot}
 use Rattle.fx_script.specs.declared.job.Callback.{Callback}
 use Rattle.fx_script.specs.declared.job.Decl.{Decl}
@@ -28,43 +27,14 @@ abbrev pub first_in : List Mark → Option Spot
 first_in [] = None
 first_in (m ∷ marks) = if m.built then first_in marks else Some m.spot
 
--- a number from low to high
-abbrev pub is_between : ℕ → ℕ → ℤ → Bool
-is_between low high (pos n) = nat_le low n && nat_le n high
-is_between low high (negsuc n) = false
-
--- the name of a declaration
-abbrev pub name_of : Decl → List ℕ
-name_of (decl.Array spot name len) = name
-name_of (decl.Counter spot name) = name
-
--- a declaration of this name
-abbrev pub is_of : List ℕ → Decl → Bool
-is_of name d = bytes_eq (name_of d) name
-
--- behind these declarations: an array of 1 to 256 elements with a new name, one of the first eight
-abbrev pub is_built_decl : List Decl → Decl → Bool
-is_built_decl before (decl.Array spot name len) = nat_lt (length before) 8 && is_between 1 256 len && not (list_any (is_of name) before)
-is_built_decl before (decl.Counter spot name) = false
-
--- the place of a declaration
-abbrev pub decl_spot : Decl → Spot
-decl_spot (decl.Array spot name len) = spot
-decl_spot (decl.Counter spot name) = spot
-
--- the lines of declarations behind these
-abbrev pub decl_marks : List Decl → List Decl → List Mark
-decl_marks before [] = []
-decl_marks before (d ∷ decls) = mark (decl_spot d) (is_built_decl before d) ∷ decl_marks (before ++ d ∷ []) decls
+-- arrays can be run, and no counter yet
+abbrev pub decl_mark : Decl → Mark
+decl_mark (decl.Array spot name len) = mark spot true
+decl_mark (decl.Counter spot name) = mark spot false
 
 -- no callback can be run yet
 abbrev pub callback_mark : Callback → Mark
 callback_mark callback = mark callback.spot false
-
--- a print of what is declared
-abbrev pub is_built_stmt : List Decl → Stmt → Bool
-is_built_stmt names (stmt.Print spot name) = list_any (is_of name) names
-is_built_stmt names _ = false
 
 -- the place of one level of a statement; of a block, that of its first line
 abbrev pub spot_level : Stmt-F Spot → Spot
@@ -91,36 +61,37 @@ spot_level (Stmt-F.Drop spot group stamp) = spot
 abbrev pub stmt_spot : Stmt → Spot
 stmt_spot = fold-Stmt Spot spot_level
 
--- the lines of statements behind so many: the first 20,000 may be prints of what is declared
-abbrev pub stmt_marks : List Decl → ℕ → List Stmt → List Mark
-stmt_marks names before [] = []
-stmt_marks names before (s ∷ body) = mark (stmt_spot s) (nat_lt before 20000 && is_built_stmt names s) ∷ stmt_marks names (before + 1) body
+-- a print
+abbrev pub is_print : Stmt → Bool
+is_print (stmt.Print spot name) = true
+is_print _ = false
+
+-- a print can be run, and no other statement yet
+abbrev pub stmt_mark : Stmt → Mark
+stmt_mark s = mark (stmt_spot s) (is_print s)
 
 -- no event can be run yet
 abbrev pub event_mark : Event → Mark
 event_mark event = mark event.spot false
 
--- one rank, no spare, and a separation from 1 to 15
+-- one rank and no spare
 abbrev pub head_marks : Job → List Mark
-head_marks job =
-    mark job.ranks_spot (is_between 1 1 job.ranks)
-    ∷ mark job.spares_spot (is_between 0 0 job.spares)
-    ∷ mark job.separation_spot (is_between 1 15 job.separation)
-    ∷ []
+head_marks job = mark job.ranks_spot (int_eq job.ranks (pos 1)) ∷ mark job.spares_spot (int_eq job.spares (pos 0)) ∷ []
 
--- the lines of a job in the order of its text
+-- the lines of a job in the order of its text, but for those that are run in every accepted job
 abbrev pub marks_of : Job → List Mark
 marks_of job =
-    head_marks job ++ (decl_marks [] job.names ++ (map callback_mark job.callbacks
-    ++ (stmt_marks job.names 0 job.body ++ map event_mark job.events)))
+    head_marks job ++ (map decl_mark job.names ++ (map callback_mark job.callbacks
+    ++ (map stmt_mark job.body ++ map event_mark job.events)))
 
--- the place of the first line of a job that can't be run
+-- the place of the first line of an accepted job that can't be run yet
 abbrev pub first_unbuilt : Job → Option Spot
 first_unbuilt job = first_in (marks_of job)
 
--- a second array of one name
-name_twice : is_built_decl (decl.Array (record { line = 5; column = 1 }) (codes "a") (pos 3) ∷ []) (decl.Array (record { line = 6; column = 1 }) (codes "a") (pos 3)) ≡ false
-name_twice = refl
+-- a counter behind an array
+a_counter : first_in (map decl_mark (decl.Array (record { line = 5; column = 1 }) (codes "a") (pos 3) ∷ decl.Counter (record { line = 6; column = 1 }) (codes "c") ∷ []))
+    ≡ Some (record { line = 6; column = 1 })
+a_counter = refl
 
 -- how long an array is declared to be
 abbrev pub len_of : ℤ → ℕ

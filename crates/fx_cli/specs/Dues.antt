@@ -1,12 +1,16 @@
 -- What is due to what comes in: the status and what is written.
-use Rattle.std.specs.Prelude.{◌≡◌, ℕ, ◌<◌, ◌≤◌, Bool, true, false, nat_lt, if◌then◌else◌, List, [], ◌∷◌, length, codes, Option, Some, None, Result, Ok, Err, refl}
+use Rattle.std.specs.Prelude.{◌≡◌, ℕ, ◌<◌, ◌≤◌, true, nat_lt, if◌then◌else◌, List, [], ◌∷◌, length, codes, Option, Some, None, is_some, Result, Ok, Err, refl}
 use Rattle.std.specs.Str.{bytes_eq}
 use Rattle.fx_base.specs.declared.spot.Spot.{Spot}
 use Rattle.fx_io.specs.Reading.{Came}
 use Rattle.fx_io.specs.Told.{Loses, IsAtEnd}
 use Rattle.fx_script.specs.declared.job.Job.{Job}
+use Rattle.fx_script.specs.Canonical.{canonical}
 use Rattle.fx_script.specs.Reading.{Refusal, job_in}
-use Rattle.fx_cli.specs.declared.status.Refusal.TheVariants.{TooBig, Text, NotBuilt}
+use Rattle.fx_check.specs.Acceptance.{Refused, refusal_of}
+use Rattle.fx_cli.specs.declared.mode.Mode.{Mode}
+use Rattle.fx_cli.specs.declared.mode.Mode.TheVariants as mode
+use Rattle.fx_cli.specs.declared.status.Refusal.TheVariants.{TooBig, Text, Static, NotBuilt}
 use Rattle.fx_cli.specs.declared.status.Status.{Status}
 use Rattle.fx_cli.specs.declared.status.Status.TheVariants.{Done, BadWords, BadJob}
 use Rattle.fx_cli.specs.Answers.{words_line, refusal_line}
@@ -18,28 +22,36 @@ use Rattle.fx_cli.specs.Plan.{journal_of}
 abbrev pub longest_job : ℕ
 longest_job = 1048576
 
--- the words are the one word `run`
-abbrev pub are_run : List (List ℕ) → Bool
-are_run [] = false
-are_run (w ∷ []) = bytes_eq w (codes "run")
-are_run (w ∷ v ∷ words) = false
+-- the mode of this name
+abbrev pub mode_named : List ℕ → Option Mode
+mode_named word = if bytes_eq word (codes "run") then Some mode.Run else (if bytes_eq word (codes "check") then Some mode.Check else None)
 
--- what comes in: other words, a source that is too long, or a whole text
+-- the mode that words ask for: one word alone, its name
+abbrev pub mode_of : List (List ℕ) → Option Mode
+mode_of [] = None
+mode_of (w ∷ []) = mode_named w
+mode_of (w ∷ v ∷ words) = None
+
+-- what comes in: words that ask for no mode, a source that is too long, or a mode and a whole text
 pub data Input : Type 0 where
   WrongWords : Input
   TooLong : Input
-  Whole : List ℕ → Input
+  Whole : Mode → List ℕ → Input
 
--- by the words, and by what the source holds at the call and after it. Other words leave the source untouched; one
--- that is too long gave more than the limit; and a whole text is all that it held
+-- by the words, and by what the source holds at the call and after it. Words that ask for no mode leave the source
+-- untouched; one that is too long gave more than the limit; and a whole text is all that it held
 abbrev pub IsInput : List (List ℕ) → Option (List ℕ) → Option (List ℕ) → Input → Type 0
-IsInput words left left' WrongWords = (are_run words ≡ false) × (left' ≡ left)
-IsInput words left left' TooLong = (are_run words ≡ true) × Came left left' (λ n. longest_job < n)
-IsInput words left left' (Whole text) = (are_run words ≡ true) × (length text ≤ longest_job) × Loses left left' text × IsAtEnd left'
+IsInput words left left' WrongWords = (mode_of words ≡ None) × (left' ≡ left)
+IsInput words left left' TooLong = (is_some (mode_of words) ≡ true) × Came left left' (λ n. longest_job < n)
+IsInput words left left' (Whole asked text) = (mode_of words ≡ Some asked) × (length text ≤ longest_job) × Loses left left' text × IsAtEnd left'
 
--- what comes in, by the words and by all that the source holds
+-- what comes in, by the mode and by all that the source holds
+abbrev pub input_in : Option Mode → List ℕ → Input
+input_in None bytes = WrongWords
+input_in (Some asked) bytes = if nat_lt longest_job (length bytes) then TooLong else Whole asked bytes
+
 abbrev pub input_of : List (List ℕ) → List ℕ → Input
-input_of words bytes = if are_run words then (if nat_lt longest_job (length bytes) then TooLong else Whole bytes) else WrongWords
+input_of words bytes = input_in (mode_of words) bytes
 
 -- a status, and all that is written
 pub record Due : Type 0 where
@@ -50,22 +62,40 @@ pub record Due : Type 0 where
 abbrev pub due_refusal : Rattle.fx_cli.specs.declared.status.Refusal.Refusal → Spot → Due
 due_refusal refusal spot = record { status = BadJob refusal spot; output = refusal_line refusal spot }
 
--- a job that can be run: its journal; any other is refused at its first line that can't
-abbrev pub due_to_job : Job → Option Spot → Due
-due_to_job job None = record { status = Done; output = text_of (journal_of (plan_of job)) }
-due_to_job job (Some spot) = due_refusal NotBuilt spot
+-- the run of an accepted job: its journal, or the refusal of its first line that can't be run yet
+abbrev pub due_to_run : Job → Option Spot → Due
+due_to_run job None = record { status = Done; output = text_of (journal_of (plan_of job)) }
+due_to_run job (Some spot) = due_refusal NotBuilt spot
+
+-- an accepted job: its run, or its canonical text
+abbrev pub due_to_accepted : Mode → Job → Due
+due_to_accepted mode.Run job = due_to_run job (first_unbuilt job)
+due_to_accepted mode.Check job = record { status = Done; output = canonical job }
+
+-- a job that was read: where it breaks a rule, the refusal for the first reason
+abbrev pub due_to_job : Mode → Job → Option Refused → Due
+due_to_job asked job None = due_to_accepted asked job
+due_to_job asked job (Some refused) = due_refusal (Static refused.fault) refused.spot
 
 -- the job in a text, or its first fault
-abbrev pub due_to_reading : Result Job Refusal → Due
-due_to_reading (Ok job) = due_to_job job (first_unbuilt job)
-due_to_reading (Err r) = due_refusal (Text r.fault) r.spot
+abbrev pub due_to_reading : Mode → Result Job Refusal → Due
+due_to_reading asked (Ok job) = due_to_job asked job (refusal_of job)
+due_to_reading asked (Err r) = due_refusal (Text r.fault) r.spot
 
 -- what is due
 abbrev pub due_to : Input → Due
 due_to WrongWords = record { status = BadWords; output = words_line }
 due_to TooLong = due_refusal TooBig (record { line = 1; column = 1 })
-due_to (Whole text) = due_to_reading (job_in text)
+due_to (Whole asked text) = due_to_reading asked (job_in text)
 
--- no words are other words than `run`
+-- no words ask for no mode
 no_words : due_to (input_of [] []) ≡ record { status = BadWords; output = words_line }
 no_words = refl
+
+-- two words ask for none, even if each is a mode's name
+two_words : mode_of (codes "run" ∷ codes "check" ∷ []) ≡ None
+two_words = refl
+
+-- the second mode
+checked : mode_of (codes "check" ∷ []) ≡ Some mode.Check
+checked = refl

@@ -1,17 +1,22 @@
 -- How a call of the program ends.
-use Rattle.std.specs.Prelude.{◌≡◌, ℕ, ◌≤◌, ◌⊎◌, true, List, ◌++◌, length, Option, None, Result, Ok, Err, refl}
+use Rattle.std.specs.Prelude.{◌≡◌, ℕ, ◌≤◌, ◌⊎◌, true, List, ◌++◌, length, Option, Some, None, is_some, Result, Ok, Err, refl}
+use Rattle.fx_base.specs.declared.spot.Spot.{Spot}
+use Rattle.fx_check.specs.Acceptance.{IsAccepted}
 use Rattle.fx_io.specs.Faults.{Rose}
 use Rattle.fx_io.specs.Reading.{Came}
 use Rattle.fx_io.specs.Told.{Loses, IsAtEnd, Gains, GainsFront}
 use Rattle.fx_script.specs.declared.job.Job.{Job}
+use Rattle.fx_script.specs.Canonical.{SpellsAlone, canonical}
 use Rattle.fx_script.specs.Spelling.{Spells}
 use Rattle.fx_cli.specs.declared.item.Item.{Item}
+use Rattle.fx_cli.specs.declared.mode.Mode.{Mode}
+use Rattle.fx_cli.specs.declared.mode.Mode.TheVariants as mode
 use Rattle.fx_cli.specs.declared.put.Cut.{Cut}
 use Rattle.fx_cli.specs.declared.put.Cut.TheVariants as cut
 use Rattle.fx_cli.specs.declared.status.Status.{Status}
 use Rattle.fx_cli.specs.declared.status.Status.TheVariants.{Done, BadWords, BadJob, ReadFault, WriteFault, NoMemory}
 use Rattle.fx_cli.specs.Built.{first_unbuilt, plan_of}
-use Rattle.fx_cli.specs.Dues.{longest_job, are_run, Input, IsInput, Due, due_to}
+use Rattle.fx_cli.specs.Dues.{longest_job, mode_of, Input, IsInput, Due, due_to}
 use Rattle.fx_cli.specs.Items.{text_of}
 use Rattle.fx_cli.specs.Legal.{IsLegal}
 
@@ -43,7 +48,7 @@ AnsweredInPart words left left' written written' =
 
 -- the reading stopped within the limit, and nothing was written
 abbrev pub StoppedReading : List (List ℕ) → Option (List ℕ) → Option (List ℕ) → Option (List ℕ) → Option (List ℕ) → Type 0
-StoppedReading words left left' written written' = (are_run words ≡ true) × Came left left' (λ n. n ≤ longest_job) × (written' ≡ written)
+StoppedReading words left left' written written' = (is_some (mode_of words) ≡ true) × Came left left' (λ n. n ≤ longest_job) × (written' ≡ written)
 
 -- how a call ends, by its status: the words, what the source held at the call and after it, and what the sink had got
 abbrev pub Ends : List (List ℕ) → Option (List ℕ) → Option (List ℕ) → Option (List ℕ) → Option (List ℕ) → Status → Type 0
@@ -55,19 +60,54 @@ Ends words left left' written written' WriteFault = AnsweredInPart words left le
 Ends words left left' written written' NoMemory =
     AnsweredInPart words left left' written written' ⊎ StoppedReading words left left' written written'
 
--- the run of a job: the source is read to its end, its text spells the job, each line of which can be run, and the text
--- of a legal journal was written
-pub record IsRun (left left' written written' : Option (List ℕ)) : Type 0 where
+-- a job is taken: the source is read to its end, and its text, which is short enough, spells the job, which is accepted
+pub record Takes (left left' : Option (List ℕ)) (job : Job) : Type 0 where
   pub text : List ℕ
-  pub job : Job
-  pub journal : List Item
   pub read : Loses left left' text
   pub at_end : IsAtEnd left'
   pub short : length text ≤ longest_job
   pub spelled : Spells text job
+  pub accepted : IsAccepted job
+
+-- the run of a job: it is taken, each of its lines can be run, and the text of a legal journal was written
+pub record IsRun (left left' written written' : Option (List ℕ)) : Type 0 where
+  pub job : Job
+  pub journal : List Item
+  pub taken : Takes left left' job
   pub built : first_unbuilt job ≡ None
   pub legal : IsLegal (plan_of job) journal
   pub gained : Gains written written' (text_of journal)
+
+-- the check of a job: it is taken, and its canonical text was written, which spells it and, spots aside, no other job
+pub record IsCheck (left left' written written' : Option (List ℕ)) : Type 0 where
+  pub job : Job
+  pub taken : Takes left left' job
+  pub alone : SpellsAlone (canonical job) job
+  pub gained : Gains written written' (canonical job)
+
+-- a call that is done has done what its words ask for
+abbrev pub DoesWhatIsAsked : Option Mode → Option (List ℕ) → Option (List ℕ) → Option (List ℕ) → Option (List ℕ) → Type 0
+DoesWhatIsAsked None left left' written written' = ⊥
+DoesWhatIsAsked (Some mode.Run) left left' written written' = IsRun left left' written written'
+DoesWhatIsAsked (Some mode.Check) left left' written written' = IsCheck left left' written written'
+
+-- a run that stops at a line that isn't built yet: the words ask for a run, the job is taken, and its first line that
+-- can't be run stands there
+pub record IsUnbuilt (words : List (List ℕ)) (left left' : Option (List ℕ)) (spot : Spot) : Type 0 where
+  pub job : Job
+  pub asked : mode_of words ≡ Some mode.Run
+  pub taken : Takes left left' job
+  pub first : first_unbuilt job ≡ Some spot
+
+-- a call is given a job: the words ask for this mode, and the source tells that it holds a text, which is short enough
+-- and spells the job, which is accepted
+pub record IsGiven (asked : Mode) (words : List (List ℕ)) (left : Option (List ℕ)) (job : Job) : Type 0 where
+  pub text : List ℕ
+  pub named : mode_of words ≡ Some asked
+  pub told : left ≡ Some text
+  pub short : length text ≤ longest_job
+  pub spelled : Spells text job
+  pub accepted : IsAccepted job
 
 -- a status is this one, unless a fault or want of memory cut the call short
 abbrev pub IsUnlessCut : Status → Status → Type 0

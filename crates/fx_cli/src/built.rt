@@ -1,15 +1,10 @@
-ghost use Rattle.std.specs.Prelude.{◌≡◌, [], map};
-ghost use Rattle.std.specs.List.{list_any};
-ghost use Rattle.fx_cli.specs.Built.{callback_mark, decl_marks, decl_spot, event_mark, first_in, first_unbuilt, head_marks, is_between, is_built_decl, is_built_stmt, is_of, name_of, stmt_marks, stmt_spot};
+ghost use Rattle.std.specs.Prelude.{◌≡◌, map};
+ghost use Rattle.fx_cli.specs.Built.{callback_mark, decl_mark, event_mark, first_in, first_unbuilt, head_marks, is_print, stmt_mark, stmt_spot};
 
 use fx_base::Spot;
 use fx_script::{Callback, Decl, Event, Job, Stmt};
 
-const MOST_NAMES: usize = 8;
-
-const MOST_STATEMENTS: usize = 20_000;
-
-/// The place of the first line of a job that can't be run yet.
+/// The place of the first line of an accepted job that can't be run yet.
 #[tactic(auto, using(crate::proofs::Marks::first_front, crate::proofs::Marks::first_back))]
 pub fn first_unbuilt(job: &Job) -> Option<Spot>
     ensures { result ≡ first_unbuilt job.now }
@@ -17,13 +12,13 @@ pub fn first_unbuilt(job: &Job) -> Option<Spot>
     if let Some(spot) = first_head(job) {
         return Some(spot);
     }
-    if let Some(spot) = first_decl(job.names.as_slice()) {
+    if let Some(spot) = first_counter(job.names.as_slice()) {
         return Some(spot);
     }
     if let Some(spot) = first_callback(job.callbacks.as_slice()) {
         return Some(spot);
     }
-    if let Some(spot) = first_stmt(job.names.as_slice(), job.body.as_slice()) {
+    if let Some(spot) = first_stmt(job.body.as_slice()) {
         return Some(spot);
     }
     first_event(job.events.as_slice())
@@ -32,15 +27,24 @@ pub fn first_unbuilt(job: &Job) -> Option<Spot>
 fn first_head(job: &Job) -> Option<Spot>
     ensures { result ≡ first_in (head_marks job.now) }
 {
-    if !is_between(job.ranks, 1, 1) {
+    if job.ranks != 1 {
         Some(job.ranks_spot)
-    } else if !is_between(job.spares, 0, 0) {
+    } else if job.spares != 0 {
         Some(job.spares_spot)
-    } else if !is_between(job.separation, 1, 15) {
-        Some(job.separation_spot)
     } else {
         None
     }
+}
+
+fn first_counter(names: &[Decl]) -> Option<Spot>
+    ensures { result ≡ first_in (map decl_mark names.now) }
+{
+    for decl in names {
+        if let Decl::Counter { spot, .. } = decl {
+            return Some(*spot);
+        }
+    }
+    None
 }
 
 fn first_callback(callbacks: &[Callback]) -> Option<Spot>
@@ -49,90 +53,27 @@ fn first_callback(callbacks: &[Callback]) -> Option<Spot>
     Some(callbacks.first()?.spot)
 }
 
-fn first_event(events: &[Event]) -> Option<Spot>
-    ensures { result ≡ first_in (map event_mark events.now) }
+fn first_stmt(body: &[Stmt]) -> Option<Spot>
+    ensures { result ≡ first_in (map stmt_mark body.now) }
 {
-    Some(events.first()?.spot)
-}
-
-fn first_decl(names: &[Decl]) -> Option<Spot>
-    ensures { result ≡ first_in (decl_marks [] names.now) }
-{
-    for (index, decl) in names.iter().enumerate() {
-        if !is_built_decl(&names[..index], decl) {
-            return Some(decl_spot(decl));
-        }
-    }
-    None
-}
-
-fn first_stmt(names: &[Decl], body: &[Stmt]) -> Option<Spot>
-    ensures { result ≡ first_in (stmt_marks names.now 0 body.now) }
-{
-    for (index, statement) in body.iter().enumerate() {
-        if index >= MOST_STATEMENTS || !is_built_stmt(names, statement) {
+    for statement in body {
+        if !is_print(statement) {
             return Some(stmt_spot(statement));
         }
     }
     None
 }
 
-fn is_between(number: i64, low: u64, high: u64) -> bool
-    ensures { result ≡ is_between low high number }
+fn first_event(events: &[Event]) -> Option<Spot>
+    ensures { result ≡ first_in (map event_mark events.now) }
 {
-    number >= 0 && low <= number as u64 && number as u64 <= high
+    Some(events.first()?.spot)
 }
 
-fn name_of(decl: &Decl) -> &[u8]
-    ensures { result.now ≡ name_of decl.now }
+fn is_print(statement: &Stmt) -> bool
+    ensures { result ≡ is_print statement.now }
 {
-    match decl {
-        Decl::Array { name, .. } => name.as_slice(),
-        Decl::Counter { name, .. } => name.as_slice(),
-    }
-}
-
-fn is_declared(name: &[u8], names: &[Decl]) -> bool
-    ensures { result ≡ list_any (is_of name.now) names.now }
-{
-    names.iter().any(|decl| is_of(name, decl))
-}
-
-fn is_of(name: &[u8], decl: &Decl) -> bool
-    ensures { result ≡ is_of name.now decl.now }
-{
-    name_of(decl) == name
-}
-
-fn is_built_decl(before: &[Decl], decl: &Decl) -> bool
-    ensures { result ≡ is_built_decl before.now decl.now }
-{
-    match decl {
-        Decl::Array { name, len, .. } => {
-            before.len() < MOST_NAMES
-                && is_between(*len, 1, 256)
-                && !is_declared(name.as_slice(), before)
-        }
-        Decl::Counter { .. } => false,
-    }
-}
-
-fn decl_spot(decl: &Decl) -> Spot
-    ensures { result ≡ decl_spot decl.now }
-{
-    match decl {
-        Decl::Array { spot, .. } => *spot,
-        Decl::Counter { spot, .. } => *spot,
-    }
-}
-
-fn is_built_stmt(names: &[Decl], statement: &Stmt) -> bool
-    ensures { result ≡ is_built_stmt names.now statement.now }
-{
-    match statement {
-        Stmt::Print { name, .. } => is_declared(name.as_slice(), names),
-        _ => false,
-    }
+    matches!(statement, Stmt::Print { .. })
 }
 
 fn stmt_spot(statement: &Stmt) -> Spot

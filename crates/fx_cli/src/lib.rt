@@ -2,10 +2,12 @@
 #![tactic(auto)]
 
 mod built;
+mod canon;
 mod item;
 pub mod laws;
 mod line;
 mod memory;
+mod mode;
 mod put;
 mod run;
 mod status;

@@ -6,6 +6,7 @@ use crate::item::Item;
 use crate::line::line_of;
 use fx_base::NoMemory;
 use fx_io::{PutEnd, Sink, write_whole};
+use fx_text::next_line;
 use std::alloc::Global;
 
 /// Why a piece wasn't written whole.
@@ -35,6 +36,22 @@ pub fn put_line<K: Sink>(sink: &mut K, line: &[u8]) -> Result<(), Cut>
         Err(PutEnd::Failed) => Err(Cut::WriteFault),
         Err(PutEnd::NoMemory) => Err(Cut::NoMemory),
     }
+}
+
+/// Writes a text, each line with its line end as one piece.
+pub fn put_lines<K: Sink>(text: &[u8], sink: &mut K) -> Result<(), Cut>
+    ensures { Puts (K.written sink.old) (K.written sink.new) (K.faults sink.old) (K.faults sink.new) text.now result }
+{
+    let mut rest = text;
+    while let Some(line) = next_line(rest, 0) {
+        if !line.ended {
+            return put_line(sink, rest);
+        }
+        let (first, later) = rest.split_at(line.to + 1);
+        put_line(sink, first)?;
+        rest = later;
+    }
+    Ok(())
 }
 
 /// Writes the line of an item as one piece.

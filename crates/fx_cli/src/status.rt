@@ -2,16 +2,19 @@ ghost use Rattle.std.specs.Prelude.{◌≡◌};
 ghost use Rattle.fx_cli.specs.Answers.{code_of, reason_of};
 
 use fx_base::Spot;
+use fx_check::StaticFault;
 use fx_script::JobFault;
 
-/// Why a job isn't run.
+/// Why a job is refused.
 #[derive(Clone, Copy, Debug, PartialEq, Eq)]
 pub enum Refusal {
     /// The source has over 1,048,576 bytes.
     TooBig,
     /// The text spells no job.
     Text(JobFault),
-    /// The text spells a job that can't be run yet.
+    /// The text spells a job that breaks a rule.
+    Static(StaticFault),
+    /// The text spells a job that is accepted and can't be run yet.
     NotBuilt,
 }
 
@@ -20,7 +23,7 @@ pub enum Refusal {
 pub enum Status {
     /// All was written.
     Done,
-    /// The words weren't the one word `run`, and nothing was read.
+    /// The words weren't one word alone, `run` or `check`, and nothing was read.
     BadWords,
     /// The job was refused, and where.
     BadJob(Refusal, Spot),
@@ -58,6 +61,15 @@ pub fn reason_of(refusal: Refusal) -> &'static [u8]
         Refusal::Text(JobFault::BadNumber) => b"BadNumber",
         Refusal::Text(JobFault::MissingPart) => b"MissingPart",
         Refusal::Text(JobFault::TrailingText) => b"TrailingText",
+        Refusal::Static(StaticFault::UnknownName) => b"UnknownName",
+        Refusal::Static(StaticFault::NameTwice) => b"NameTwice",
+        Refusal::Static(StaticFault::OutOfRange) => b"OutOfRange",
+        Refusal::Static(StaticFault::NotUniform) => b"NotUniform",
+        Refusal::Static(StaticFault::Misplaced) => b"Misplaced",
+        Refusal::Static(StaticFault::GroupDiffers) => b"GroupDiffers",
+        Refusal::Static(StaticFault::MemberDiffers) => b"MemberDiffers",
+        Refusal::Static(StaticFault::SubsetOutside) => b"SubsetOutside",
+        Refusal::Static(StaticFault::TooMuchWork) => b"TooMuchWork",
         Refusal::NotBuilt => b"NotBuilt",
     }
 }

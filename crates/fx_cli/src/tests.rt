@@ -1,5 +1,6 @@
 use super::*;
 use fx_base::{Bytes, Elems, Spot};
+use fx_check::StaticFault;
 use fx_io::{MemSink, MemSource, SureSink, SureSource};
 use fx_script::JobFault;
 use std::alloc::Global;
@@ -8,8 +9,26 @@ use std::test::Fail;
 const TWO_PRINTS: &str =
     "fenix 1\nranks 1\nspares 0\nseparation 1\narray a 3\nbegin\nprint a\nprint a\nend\nschedule\nstop\n";
 
+const JOURNAL: &str =
+    "join 0 1 start\nrepaired 0 1 1 full : 0=0\ninit 0 1 initial 0 0 1 full\nprint 0 1 a : 0 0 0\nprint 0 1 a : 0 0 0\njoin 0 2 final\nended 0\n";
+
 const TWO_RANKS: &str =
     "fenix 1\nranks 2\nspares 0\nseparation 1\narray a 3\nbegin\nprint a\nprint a\nend\nschedule\nstop\n";
+
+const A_BARRIER: &str =
+    "fenix 1\nranks 2\nspares 0\nseparation 1\nbegin\nbarrier\nend\nschedule\nstop\n";
+
+const SPACED: &str =
+    "fenix 1\nranks 1\nspares  0\nseparation 1\narray a 3\n# note\nbegin\nprint a\nprint a\nend\nschedule\nstop\n";
+
+const MISPLACED: &str =
+    "fenix 1\nranks 1\nspares  0\nseparation 1\narray a 3\nbegin\nwhen recovered\nbarrier\nendwhen\nprint a\nend\nschedule\nstop\n";
+
+const NOT_UNIFORM: &str =
+    "fenix 1\nranks 1\nspares  0\nseparation 1\narray a 3\ncounter c\nbegin\nset c rank\nprint a\nend\nschedule\nstop\n";
+
+const UNKNOWN: &str =
+    "fenix 1\nranks 2\nspares 0\nseparation 1\nbegin\nprint a\nend\nschedule\nstop\n";
 
 const UNENDED: &str =
     "fenix 1\nranks 1\nspares 0\nseparation 1\narray a 3\nbegin\nprint a\nprint a\nend\nschedule\nstop";
@@ -38,22 +57,50 @@ fn bad(fault: JobFault, line: u32, column: u32) -> Status {
     Status::BadJob(Refusal::Text(fault), Spot { line, column })
 }
 
+fn broken(fault: StaticFault, line: u32) -> Status {
+    Status::BadJob(Refusal::Static(fault), Spot { line, column: 1 })
+}
+
+fn unbuilt(line: u32) -> Status {
+    Status::BadJob(Refusal::NotBuilt, Spot { line, column: 1 })
+}
+
+fn answer_to(alloc: Global, words: &str, text: &str) -> Result<(Status, SureSink), Fail> {
+    let words = words_of(alloc, words)?;
+    let text = bytes_of(alloc, text)?;
+    Ok(fenix_in_memory(alloc, words.as_slice(), text))
+}
+
+#[test]
+fn other_words_are_refused(rt: HostRuntime) -> Result<(), Fail> {
+    let alloc = rt.alloc();
+    for words in ["run run", "walk", "run check", "checks", ""] {
+        let (ended, sink) = answer_to(alloc, words, TWO_PRINTS)?;
+        assert_eq!(rt; ended, Status::BadWords, "at {words}");
+        assert_eq!(rt;
+            sink.written().as_slice(),
+            b"fenix: bad words\n".as_slice(),
+            "at {words}"
+        );
+    }
+    Ok(())
+}
+
 #[test]
 fn texts_are_answered(rt: HostRuntime) -> Result<(), Fail> {
     let alloc = rt.alloc();
-    let journal =
-        "join 0 1 start\nrepaired 0 1 1 full : 0=0\ninit 0 1 initial 0 0 1 full\nprint 0 1 a : 0 0 0\nprint 0 1 a : 0 0 0\njoin 0 2 final\nended 0\n";
-    let bad_words = "fenix: bad words\n";
     for (words, text, status, output) in [
-        ("run", TWO_PRINTS, Status::Done, journal),
-        ("run run", TWO_PRINTS, Status::BadWords, bad_words),
-        ("walk", TWO_PRINTS, Status::BadWords, bad_words),
-        ("check", TWO_PRINTS, Status::BadWords, bad_words),
-        ("", TWO_PRINTS, Status::BadWords, bad_words),
+        ("run", TWO_PRINTS, Status::Done, JOURNAL),
         (
             "run",
             TWO_RANKS,
-            Status::BadJob(Refusal::NotBuilt, Spot { line: 2, column: 1 }),
+            unbuilt(2),
+            "fenix: bad job: NotBuilt at 2:1\n",
+        ),
+        (
+            "run",
+            A_BARRIER,
+            unbuilt(2),
             "fenix: bad job: NotBuilt at 2:1\n",
         ),
         (
@@ -69,8 +116,45 @@ fn texts_are_answered(rt: HostRuntime) -> Result<(), Fail> {
             "fenix: bad job: BadLine at 11:5\n",
         ),
     ] {
-        let words = words_of(alloc, words)?;
-        let (ended, sink) = fenix_in_memory(alloc, words.as_slice(), bytes_of(alloc, text)?);
+        let (ended, sink) = answer_to(alloc, words, text)?;
+        assert_eq!(rt; ended, status, "at {output}");
+        assert_eq!(rt; sink.written().as_slice(), output.as_bytes(), "at {output}");
+    }
+    Ok(())
+}
+
+#[test]
+fn jobs_are_checked(rt: HostRuntime) -> Result<(), Fail> {
+    let alloc = rt.alloc();
+    for (words, text, status, output) in [
+        ("check", SPACED, Status::Done, TWO_PRINTS),
+        ("check", TWO_RANKS, Status::Done, TWO_RANKS),
+        (
+            "check",
+            MISPLACED,
+            broken(StaticFault::Misplaced, 8),
+            "fenix: bad job: Misplaced at 8:1\n",
+        ),
+        (
+            "check",
+            NOT_UNIFORM,
+            broken(StaticFault::NotUniform, 8),
+            "fenix: bad job: NotUniform at 8:1\n",
+        ),
+        (
+            "run",
+            UNKNOWN,
+            broken(StaticFault::UnknownName, 6),
+            "fenix: bad job: UnknownName at 6:1\n",
+        ),
+        (
+            "check",
+            UNENDED,
+            bad(JobFault::BadLine, 11, 5),
+            "fenix: bad job: BadLine at 11:5\n",
+        ),
+    ] {
+        let (ended, sink) = answer_to(alloc, words, text)?;
         assert_eq!(rt; ended, status, "at {output}");
         assert_eq!(rt; sink.written().as_slice(), output.as_bytes(), "at {output}");
     }
@@ -110,6 +194,18 @@ fn a_sink_fails_at_its_third_line(rt: HostRuntime) -> Result<(), Fail> {
         sink.written().as_slice(),
         b"join 0 1 start\nrepaired 0 1 1 full : 0=0\n".as_slice()
     );
+    Ok(())
+}
+
+#[test]
+fn a_sink_fails_at_the_third_line_of_a_text(rt: HostRuntime) -> Result<(), Fail> {
+    let alloc = rt.alloc();
+    let words = words_of(alloc, "check")?;
+    let mut source = SureSource::new(bytes_of(alloc, TWO_PRINTS)?);
+    let mut sink = MemSink::new(alloc, numbers(alloc, 3)?);
+    let ended = fenix(alloc, words.as_slice(), &mut source, &mut sink);
+    assert_eq!(rt; ended, Status::WriteFault);
+    assert_eq!(rt; sink.written().as_slice(), b"fenix 1\nranks 1\n".as_slice());
     Ok(())
 }
 

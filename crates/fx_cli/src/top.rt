@@ -1,17 +1,21 @@
-ghost use Rattle.std.specs.Prelude.{◌≡◌, ◌≤◌, ℕ, List, IfOk, None, Ok, Some, length, map, string_bytes, true};
+ghost use Rattle.std.specs.Prelude.{◌≡◌, ◌≤◌, ℕ, List, IfOk, None, Ok, Some, length, map, string_bytes};
 ghost use Rattle.fx_io.specs.Faults.{Rose};
+ghost use Rattle.fx_check.specs.Acceptance.{refusal_of};
+ghost use Rattle.fx_script.specs.Canonical.{HasText};
 ghost use Rattle.fx_script.specs.Reading.{job_in};
-ghost use Rattle.fx_script.specs.Spelling.{Spells};
 ghost use Rattle.fx_cli.specs.Answers.{refusal_line};
 ghost use Rattle.fx_cli.specs.Built.{first_unbuilt};
-ghost use Rattle.fx_cli.specs.Dues.{WrongWords, are_run, due_refusal, due_to, due_to_job, due_to_reading, input_of, longest_job};
-ghost use Rattle.fx_cli.specs.Ends.{Ends, IsRun, IsUnlessCut, Settles, settled};
+ghost use Rattle.fx_cli.specs.Dues.{WrongWords, due_refusal, due_to, due_to_accepted, due_to_job, due_to_reading, due_to_run, input_of, longest_job, mode_of};
+ghost use Rattle.fx_cli.specs.Ends.{DoesWhatIsAsked, Ends, IsGiven, IsUnbuilt, IsUnlessCut, Settles, settled};
 
 use crate::built::first_unbuilt;
+use crate::canon::write_canonical;
+use crate::mode::{Mode, mode_of};
 use crate::put::{Cut, put_line};
 use crate::run::write_journal;
 use crate::status::{Refusal, Status, reason_of};
 use fx_base::{Bytes, NoMemory, Spot};
+use fx_check::{CheckJob, check_job};
 use fx_io::{Sink, Source, WholeEnd, read_whole};
 use fx_script::{Job, ReadJob, read_job};
 use fx_text::push_number;
@@ -22,8 +26,9 @@ const LONGEST_JOB: usize = 1_048_576;
 
 /// Runs the program: from its words and what the source holds to what the sink gets.
 ///
-/// The one word that it knows is `run`. The source is read to its end, and the text must spell a job that can be
-/// run; then the journal of its run is written, each line as one piece with its line end. A refusal is one line.
+/// It knows the words `run` and `check`, one of them alone. The source is read to its end, the text must spell a job,
+/// and the job must be accepted. Then `check` writes the job's canonical text, and `run` the journal of its run if
+/// each of its lines can be run. Each line is written as one piece with its line end. A refusal is one line.
 pub fn fenix<S: Source, K: Sink>(
     alloc: Global,
     words: &[String],
@@ -32,12 +37,17 @@ pub fn fenix<S: Source, K: Sink>(
 ) -> Status
     // What was read and written, by the status.
     ensures ends { Ends (map string_bytes words.now) (S.left source.old) (S.left source.new) (K.written sink.old) (K.written sink.new) result }
-    // Done: the source held a text of a job that can be run, and the text of a legal journal of it was written.
-    ensures done_is_a_run { result ≡ Status.Done → IsRun (S.left source.old) (S.left source.new) (K.written sink.old) (K.written sink.new) }
+    // Done: the source held a text of an accepted job. In mode run each of its lines can be run, and the text of a legal
+    // journal of it was written; in mode check its canonical text was.
+    ensures done { result ≡ Status.Done → DoesWhatIsAsked (mode_of (map string_bytes words.now)) (S.left source.old) (S.left source.new) (K.written sink.old) (K.written sink.new) }
+    // Not built: in mode run alone, and the source held a text of an accepted job whose first line that can't be run is there.
+    ensures not_built_is_accepted { (spot : Spot) → result ≡ Status.BadJob Refusal.NotBuilt spot → IsUnbuilt (map string_bytes words.now) (S.left source.old) (S.left source.new) spot }
     // Where the source tells what it holds, that and the words fix the status, unless a fault or want of memory cuts the call short.
     ensures status_is_due { (held : List ℕ) → S.left source.old ≡ Some held → IsUnlessCut (due_to (input_of (map string_bytes words.now) held)).status result }
-    // A text that spells a job that can be run is answered by its run, unless the call is cut short.
-    ensures jobs_are_run { (held : List ℕ) (job : Job) → are_run (map string_bytes words.now) ≡ true → S.left source.old ≡ Some held → length held ≤ longest_job → Spells held job → first_unbuilt job ≡ None → IsUnlessCut Status.Done result }
+    // A text that spells an accepted job each line of which can be run is answered by its run, unless the call is cut short.
+    ensures jobs_are_run { (job : Job) → IsGiven Mode.Run (map string_bytes words.now) (S.left source.old) job → first_unbuilt job ≡ None → IsUnlessCut Status.Done result }
+    // A text that spells an accepted job is answered by its canonical text, unless the call is cut short.
+    ensures accepted_jobs_are_printed { (job : Job) → IsGiven Mode.Check (map string_bytes words.now) (S.left source.old) job → IsUnlessCut Status.Done result }
     ensures read_fault_only_if_count_rose { result ≡ Status.ReadFault → Rose (S.faults source.old) (S.faults source.new) }
     ensures write_fault_only_if_count_rose { result ≡ Status.WriteFault → Rose (K.faults sink.old) (K.faults sink.new) }
     ensures source_count_never_falls { S.faults source.old ≤ S.faults source.new }
@@ -53,41 +63,55 @@ fn call<S: Source, K: Sink>(alloc: Global, words: &[String], source: &mut S, sin
     ensures source_count_never_falls { S.faults source.old ≤ S.faults source.new }
     ensures sink_count_never_falls { K.faults sink.old ≤ K.faults sink.new }
 {
-    if !are_run(words) {
+    let Some(mode) = mode_of(words) else {
         return refuse_words(sink);
-    }
+    };
     match read_whole(alloc, source, LONGEST_JOB) {
-        Ok(text) => answer(alloc, text.as_slice(), sink),
+        Ok(text) => answer(alloc, mode, text.as_slice(), sink),
         Err(WholeEnd::TooLong) => refuse(alloc, Refusal::TooBig, Spot { line: 1, column: 1 }, sink),
         Err(WholeEnd::Failed) => Status::ReadFault,
         Err(WholeEnd::NoMemory) => Status::NoMemory,
     }
 }
 
-fn are_run(words: &[String]) -> bool
-    ensures { result ≡ are_run (map string_bytes words.now) }
-{
-    match words {
-        [word] => word.as_str() == "run",
-        _ => false,
-    }
-}
-
 // Answers a whole text.
-fn answer<K: Sink>(alloc: Global, text: &[u8], sink: &mut K) -> Status
+fn answer<K: Sink>(alloc: Global, mode: Mode, text: &[u8], sink: &mut K) -> Status
     requires { length text.now ≤ longest_job }
-    ensures { Settles (due_to_reading (job_in text.now)) (K.written sink.old) (K.written sink.new) (K.faults sink.old) (K.faults sink.new) result }
+    ensures { Settles (due_to_reading mode (job_in text.now)) (K.written sink.old) (K.written sink.new) (K.faults sink.old) (K.faults sink.new) result }
 {
     match read_job(alloc, text) {
-        Ok(job) => run(alloc, &job, sink),
+        Ok(job) => answer_job(alloc, mode, job, sink),
         Err(ReadJob::Refused(fault, spot)) => refuse(alloc, Refusal::Text(fault), spot, sink),
         Err(ReadJob::NoMemory) => Status::NoMemory,
     }
 }
 
-// Runs a job, or refuses it at its first line that can't be run.
+// Answers a job that was read.
+fn answer_job<K: Sink>(alloc: Global, mode: Mode, job: Job, sink: &mut K) -> Status
+    requires { HasText job }
+    ensures { Settles (due_to_job mode job (refusal_of job)) (K.written sink.old) (K.written sink.new) (K.faults sink.old) (K.faults sink.new) result }
+{
+    match check_job(alloc, job) {
+        Ok(accepted) => answer_accepted(alloc, mode, accepted.job(), sink),
+        Err(CheckJob::Refused(fault, spot)) => refuse(alloc, Refusal::Static(fault), spot, sink),
+        Err(CheckJob::NoMemory) => Status::NoMemory,
+    }
+}
+
+// Answers an accepted job.
+fn answer_accepted<K: Sink>(alloc: Global, mode: Mode, job: &Job, sink: &mut K) -> Status
+    requires { HasText job.now }
+    ensures { Settles (due_to_accepted mode job.now) (K.written sink.old) (K.written sink.new) (K.faults sink.old) (K.faults sink.new) result }
+{
+    match mode {
+        Mode::Run => run(alloc, job, sink),
+        Mode::Check => settled(write_canonical(alloc, job, sink), Status::Done),
+    }
+}
+
+// Runs an accepted job, or refuses it at its first line that can't be run yet.
 fn run<K: Sink>(alloc: Global, job: &Job, sink: &mut K) -> Status
-    ensures { Settles (due_to_job job.now (first_unbuilt job.now)) (K.written sink.old) (K.written sink.new) (K.faults sink.old) (K.faults sink.new) result }
+    ensures { Settles (due_to_run job.now (first_unbuilt job.now)) (K.written sink.old) (K.written sink.new) (K.faults sink.old) (K.faults sink.new) result }
 {
     match first_unbuilt(job) {
         Some(spot) => refuse(alloc, Refusal::NotBuilt, spot, sink),
@@ -95,7 +119,7 @@ fn run<K: Sink>(alloc: Global, job: &Job, sink: &mut K) -> Status
     }
 }
 
-// Writes the line for words that aren't the one word `run`.
+// Writes the line for words that ask for no mode.
 fn refuse_words<K: Sink>(sink: &mut K) -> Status
     ensures { Settles (due_to WrongWords) (K.written sink.old) (K.written sink.new) (K.faults sink.old) (K.faults sink.new) result }
 {

@@ -10,5 +10,8 @@ pub mod Found
 pub mod Again
 pub mod Spelled
 pub mod Placed
+pub mod Respotted
 pub mod ExprSteps
 pub mod PairSteps
+pub mod CanonLines
+pub mod CanonAlone

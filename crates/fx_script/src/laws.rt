@@ -2,6 +2,7 @@
 
 ghost use Rattle.std.specs.Prelude.{◌≡◌, ℕ, List, Ok};
 ghost use Rattle.fx_script.specs.declared.job.Job.{Job};
+ghost use Rattle.fx_script.specs.Canonical.{canonical, HasText, SpellsAlone};
 ghost use Rattle.fx_script.specs.Reading.{job_in};
 ghost use Rattle.fx_script.specs.Spelling.{Spells};
 
@@ -14,4 +15,9 @@ pub fn a_text_spells_one_job()
 pub fn reading_is_spelling()
     ensures read { (text : List ℕ) (job : Job) → Spells text job → job_in text ≡ Ok job }
     ensures spelled { (text : List ℕ) (job : Job) → job_in text ≡ Ok job → Spells text job }
+{}
+
+/// The canonical text of a job spells it and, spots aside, no other job.
+pub fn the_canonical_text_spells_its_job_alone()
+    ensures { (job : Job) → HasText job → SpellsAlone (canonical job) job }
 {}

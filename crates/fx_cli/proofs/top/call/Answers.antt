@@ -1,18 +1,16 @@
-use Rattle.std.proofs.Common.{◌≡◌, ◌≤◌, ℕ, List, true, length, map, string_bytes, subst, sym, arith}
-use Rattle.std.proofs.lemmas.Grind.{common_steps}
+use Rattle.std.proofs.Common.{◌≤◌, ℕ, List, length, map, string_bytes, subst, sym}
 use Rattle.fx_io.specs.Told.{Loses}
-use Rattle.fx_cli.specs.Dues.{are_run, longest_job, Whole}
+use Rattle.fx_cli.specs.Dues.{longest_job, Whole}
 use Rattle.fx_cli.proofs.Ending.{ends_of}
 use Rattle.fx_cli.proofs.top.call.Goals as goal
 
 pub returns-in-Ok-clause-ends : goal.returns-in-Ok-clause-ends
 returns-in-Ok-clause-ends g c =
-    let run : are_run (map string_bytes c.args.words.now) ≡ true = grind (arith, common_steps) in
     let same = sym c.as_slice.ensures in
     let read = c.in-Ok.ensures.content in
     let short = subst (λ (t : List ℕ). length t ≤ longest_job) same read.0 in
     let gone = subst (λ (t : List ℕ). Loses (g.S.Source.left c.args.source.now) (g.S.Source.left c.read_whole.new.source) t) same read.1 in
     ends_of (map string_bytes c.args.words.now) (g.S.Source.left c.args.source.now) (g.S.Source.left c.read_whole.new.source)
     (g.K.Sink.written c.args.sink.now) (g.K.Sink.written c.answer.new.sink)
-    (g.K.Sink.faults c.args.sink.now) (g.K.Sink.faults c.answer.new.sink) (Whole c.as_slice.result.now) c.answer.result
-    (run, short, gone, read.2) c.answer.ensures
+    (g.K.Sink.faults c.args.sink.now) (g.K.Sink.faults c.answer.new.sink) (Whole c.in-Some.mode c.as_slice.result.now) c.answer.result
+    (sym c.in-Some.ensures, short, gone, read.2) c.answer.ensures
