@@ -8,6 +8,7 @@ mod exprs;
 mod fault;
 mod head;
 mod inside;
+pub mod laws;
 mod lookup;
 mod place;
 mod range;
