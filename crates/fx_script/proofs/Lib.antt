@@ -12,3 +12,6 @@ pub mod Spelled
 pub mod Placed
 pub mod ExprSteps
 pub mod PairSteps
+pub mod PrintLemmas
+pub mod TextLemmas
+pub mod JobText
