@@ -8,11 +8,15 @@ use crate::print_stmt::put_block;
 use fx_base::{Bytes, NoMemory};
 use std::alloc::Global;
 
-/// The canonical text of a job: one space between words, none elsewhere, and no comments or blank lines. It reads
-/// as the same job but for the spots. Some text spells the job, its spots aside, as is so for every job that was read.
+/// The canonical text of a job: its lines with one space between words, none elsewhere, and no comments or blank
+/// lines. The job must be one that some text spells, spots aside; every job that was read is one. What is printed
+/// then spells the job and, spots aside, no other. So it is read again as the same job but for the spots.
 pub fn print_job(alloc: Global, job: &Job) -> Result<Bytes, NoMemory>
     requires { HasText job.now }
-    ensures { IfOk result (λ text. text ≡ canonical job.now) }
+    // What is printed is this text.
+    ensures canonical { IfOk result (λ text. text ≡ canonical job.now) }
+    // It spells the job and, spots aside, no other.
+    ensures alone { IfOk result (λ text. SpellsAlone text job.now) }
 {
     let mut text = Bytes::new(alloc);
     put_job(&mut text, job)?;
