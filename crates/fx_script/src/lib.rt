@@ -1,4 +1,4 @@
-//! The job language: a text is read as the job that it spells.
+//! The job language: a text is read as the job that it spells, and a job is printed as its canonical text.
 #![tactic(auto)]
 
 mod cursor;
