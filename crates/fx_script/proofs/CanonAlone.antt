@@ -1,5 +1,5 @@
 -- The canonical text of a job spells it and, spots aside, no other job.
-use Rattle.std.proofs.Common.{◌≡◌, ℕ, List, ap, subst, ◌∙◌}
+use Rattle.std.proofs.Common.{◌≡◌, ℕ, List, refl, ap, subst, ◌∙◌}
 use Rattle.fx_script.specs.declared.job.Job.{Job}
 use Rattle.fx_script.specs.Spelling.{Spells}
 use Rattle.fx_script.specs.Canonical.{canonical, aside, HasText, SpellsAlone}
@@ -25,3 +25,7 @@ canonical_alone job has =
     let respotted : Respotted told = job_respotted told in
     let spells = canonical_spells text told respotted.again has.2 respotted.entries (respotted.writable has.2.writable) in
     spells_alone text told job respotted.again spells (respotted.same ∙ has.3) (canonical_aside told job has.3)
+
+-- a job that a text spells has a text
+pub spelled_has_text : (text : List ℕ) (job : Job) → Spells text job → HasText job
+spelled_has_text text job spells = (text, job, spells, refl)

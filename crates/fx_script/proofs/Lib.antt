@@ -15,3 +15,6 @@ pub mod ExprSteps
 pub mod PairSteps
 pub mod CanonLines
 pub mod CanonAlone
+pub mod PrintLemmas
+pub mod TextLemmas
+pub mod JobText

@@ -1,6 +1,5 @@
 -- The one text that is written for a job, and jobs that differ in the spots of their lines alone.
-use Rattle.std.specs.Prelude.{◌≡◌, ℕ, List, [], ◌∷◌, ◌++◌, map, codes, Option, Some, None, refl}
-use Rattle.fx_base.specs.declared.spot.Spot.{Spot}
+use Rattle.std.specs.Prelude.{◌≡◌, ℕ, List, [], ◌∷◌, ◌++◌, map, codes, refl}
 use Rattle.fx_script.specs.declared.job.Callback.{Callback}
 use Rattle.fx_script.specs.declared.job.Decl.{Decl}
 use Rattle.fx_script.specs.declared.job.Decl.TheVariants as decl

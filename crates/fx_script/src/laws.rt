@@ -2,7 +2,7 @@
 
 ghost use Rattle.std.specs.Prelude.{◌≡◌, ℕ, List, Ok};
 ghost use Rattle.fx_script.specs.declared.job.Job.{Job};
-ghost use Rattle.fx_script.specs.Canonical.{canonical, HasText, SpellsAlone};
+ghost use Rattle.fx_script.specs.Canonical.{canonical, aside, HasText, SpellsAlone};
 ghost use Rattle.fx_script.specs.Reading.{job_in};
 ghost use Rattle.fx_script.specs.Spelling.{Spells};
 
@@ -20,4 +20,9 @@ pub fn reading_is_spelling()
 /// The canonical text of a job spells it and, spots aside, no other job.
 pub fn the_canonical_text_spells_its_job_alone()
     ensures { (job : Job) → HasText job → SpellsAlone (canonical job) job }
+{}
+
+/// Jobs that are the same but for their spots have one canonical text.
+pub fn jobs_alike_have_one_text()
+    ensures { (a b : Job) → aside a ≡ aside b → canonical a ≡ canonical b }
 {}

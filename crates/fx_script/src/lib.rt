@@ -1,4 +1,4 @@
-//! The job language: a text is read as the job that it spells.
+//! The job language: a text is read as the job that it spells, and a job is printed as its canonical text.
 #![tactic(auto)]
 
 mod cursor;
@@ -11,6 +11,9 @@ mod keyword;
 pub mod laws;
 mod name;
 mod print;
+mod print_line;
+mod print_stmt;
+mod print_word;
 mod read;
 mod reader;
 mod refusal;
