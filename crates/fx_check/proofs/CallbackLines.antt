@@ -1,8 +1,8 @@
 -- The lines of callbacks that are left.
-use Rattle.std.proofs.Common.{◌≡◌, ℕ, ◌+◌, ◌<◌, List, [], ◌∷◌, ◌++◌, length, take, drop, get_or, add-one, drop-cons, take-suc, refl, sym, ap, ◌∙◌, append_assoc}
+use Rattle.std.proofs.Common.{◌≡◌, ℕ, ◌+◌, ◌<◌, List, [], ◌∷◌, ◌++◌, length, take, drop, get_or, add-one, drop-cons, take-suc, refl, sym, ap, ◌∙◌}
 use Rattle.fx_script.specs.declared.job.Callback.{Callback}
 use Rattle.fx_script.specs.declared.job.Stmt.{Stmt}
-use Rattle.fx_check.specs.Acceptance.{Line, stmt_lines, callback_body_lines, callback_line, callbacks_lines}
+use Rattle.fx_check.specs.Acceptance.{stmt_lines, callback_body_lines, callback_line, callbacks_lines}
 use Rattle.fx_check.specs.Facts.{Facts}
 use Rattle.fx_check.specs.Rules.{callback_place}
 

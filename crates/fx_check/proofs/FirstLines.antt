@@ -1,5 +1,5 @@
 -- The first line of a statement, by what the statement is.
-use Rattle.std.proofs.Common.{◌≡◌, Bool, List, ℕ, ◌&&◌, sym, ap, ◌∙◌}
+use Rattle.std.proofs.Common.{◌≡◌, List, ℕ, ◌&&◌, sym, ap, ◌∙◌}
 use Rattle.fx_base.specs.declared.spot.Spot.{Spot}
 use Rattle.fx_script.specs.declared.expr.Expr.{Expr}
 use Rattle.fx_script.specs.declared.job.Stmt.{Stmt}

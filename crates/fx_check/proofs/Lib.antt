@@ -3,4 +3,5 @@ pub mod FirstLines
 pub mod Walks
 pub mod CallbackLines
 pub mod Accepting
-pub mod Parts
+pub mod LineParts
+pub mod PartLemmas

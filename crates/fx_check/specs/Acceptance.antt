@@ -1,5 +1,5 @@
 -- Which jobs are accepted, and at which line and for which reason any other is refused.
-use Rattle.std.specs.Prelude.{◌≡◌, ℕ, ◌+◌, ◌≤◌, Bool, true, false, not, ◌&&◌, ◌||◌, nat_lt, if◌then◌else◌, List, [], ◌∷◌, ◌++◌, length, map, Option, Some, None, Result, Ok, Err}
+use Rattle.std.specs.Prelude.{◌≡◌, ℕ, ◌+◌, ◌≤◌, Bool, true, not, ◌&&◌, ◌||◌, nat_lt, if◌then◌else◌, List, [], ◌∷◌, ◌++◌, length, map, Option, Some, None, Result, Ok, Err}
 use Rattle.std.specs.List.{AllByRecursion, filter, list_any}
 use Rattle.fx_base.specs.declared.spot.Spot.{Spot}
 use Rattle.fx_script.specs.declared.job.Callback.{Callback}
@@ -17,7 +17,7 @@ use Rattle.fx_check.specs.declared.fault.StaticFault.{StaticFault}
 use Rattle.fx_check.specs.declared.fault.StaticFault.TheVariants.{UnknownName, NameTwice, OutOfRange, NotUniform, Misplaced, GroupDiffers, MemberDiffers, SubsetOutside, TooMuchWork}
 use Rattle.fx_check.specs.declared.place.Place.{Place}
 use Rattle.fx_check.specs.Facts.{Facts, facts_of, name_of, decl_spot, is_of, is_array_decl, is_counter_decl, is_call_of}
-use Rattle.fx_check.specs.Rules.{body_place, callback_place, inside_when, inside_if, inside_for, is_between, count_of, procs_of, is_event_in_range, is_known, is_in_range, has_room, is_uniform, is_placed, agrees_on_group, agrees_on_member, stores_inside}
+use Rattle.fx_check.specs.Rules.{body_place, callback_place, inside_when, inside_if, inside_for, is_between, procs_of, is_event_in_range, is_known, is_in_range, has_room, is_uniform, is_placed, agrees_on_group, agrees_on_member, stores_inside}
 use Rattle.fx_check.specs.Work.{work_of}
 
 -- ---- the lines of a job

@@ -2,4 +2,5 @@ pub mod Facts
 pub mod Rules
 pub mod Work
 pub mod Acceptance
+pub mod Parts
 pub mod Holds

@@ -1,6 +1,7 @@
 ghost use Rattle.std.specs.Prelude.{◌≡◌, ◌≤◌};
 ghost use Rattle.fx_script.specs.Canonical.{HasText};
 ghost use Rattle.fx_check.specs.Acceptance.{IsAccepted};
+ghost use Rattle.fx_check.specs.Parts.{KeepsByParts};
 ghost use Rattle.fx_check.specs.Rules.{procs_of};
 ghost use Rattle.fx_check.specs.Work.{bound_of, bound_with, work_of};
 
@@ -45,6 +46,7 @@ impl Accepted {
     pub fn job(&self) -> &Job
         ensures same { result.now ≡ self.now }
         ensures accepted { IsAccepted self.now }
+        ensures by_parts { KeepsByParts self.now }
         ensures has_text { HasText self.now }
     {
         &self.job

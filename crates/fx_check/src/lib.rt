@@ -20,3 +20,7 @@ mod work;
 pub use accepted::Accepted;
 pub use check::check_job;
 pub use fault::{CheckJob, StaticFault};
+pub use place::Place;
+
+#[cfg(test)]
+mod tests;

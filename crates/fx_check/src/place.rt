@@ -18,7 +18,7 @@ pub struct Place {
 
 impl Place {
     /// The body.
-    pub fn body() -> Place
+    pub(crate) fn body() -> Place
         ensures { result ≡ body_place }
     {
         Place {
@@ -31,7 +31,7 @@ impl Place {
     }
 
     /// A callback, behind so many of its statements.
-    pub fn callback(before: u64) -> Place
+    pub(crate) fn callback(before: u64) -> Place
         ensures { result ≡ callback_place before }
     {
         Place {
@@ -42,7 +42,7 @@ impl Place {
     }
 
     /// Inside a `when` that stands here.
-    pub fn inside_when(self) -> Place
+    pub(crate) fn inside_when(self) -> Place
         requires blocks { self.blocks < 8 }
         requires loops { self.loops ≤ 4 }
         ensures same { result ≡ inside_when self }
@@ -57,7 +57,7 @@ impl Place {
     }
 
     /// Inside an `if` that stands here.
-    pub fn inside_if(self) -> Place
+    pub(crate) fn inside_if(self) -> Place
         requires blocks { self.blocks < 8 }
         requires loops { self.loops ≤ 4 }
         ensures same { result ≡ inside_if self }
@@ -71,7 +71,7 @@ impl Place {
     }
 
     /// Inside a `for` that stands here.
-    pub fn inside_for(self) -> Place
+    pub(crate) fn inside_for(self) -> Place
         requires blocks { self.blocks < 8 }
         requires loops { self.loops < 4 }
         ensures same { result ≡ inside_for self }

@@ -11,7 +11,8 @@ use Rattle.fx_script.specs.declared.job.Stmt.TheOpen.{Stmt-F}
 use Rattle.fx_script.specs.declared.job.Stmt.TheFolds.{fold-roll-Stmt}
 use Rattle.fx_check.specs.Acceptance.{Line, IsAccepted, stmt_line, stmt_lines_level, stmt_lines, stmts_lines, head_lines, decl_lines, callbacks_lines, event_lines}
 use Rattle.fx_check.specs.Facts.{Facts, facts_of, is_array, is_counter, is_value}
-use Rattle.fx_check.specs.Rules.{Place, body_place, procs_of}
+use Rattle.fx_check.specs.declared.place.Place.{Place}
+use Rattle.fx_check.specs.Rules.{body_place, procs_of}
 use Rattle.fx_cli.specs.Built.{Mark, first_in, head_marks, decl_mark, callback_mark, is_print, stmt_mark, event_mark, first_unbuilt, printed_by, printed_in}
 
 -- the names of a line are declared
@@ -85,9 +86,13 @@ all_arrays f (name ∷ printed) none all =
 pub prints_arrays : (job : Job) → IsAccepted job → first_unbuilt job ≡ None → AllByRecursion (λ name. is_array job.names name ≡ true) (printed_in job.body)
 prints_arrays job accepted built =
     let f = facts_of job in
-    let before = head_lines job ++ decl_lines [] job.names ++ callbacks_lines f [] job.callbacks in
+    let heads = head_lines job in
+    let decls = decl_lines [] job.names in
+    let called = callbacks_lines f [] job.callbacks in
     let body = stmts_lines f job.body body_place in
-    let known = back before body (front (before ++ body) (event_lines (procs_of job) 0 job.events) accepted.known) in
+    let scheduled = event_lines (procs_of job) 0 job.events in
+    let behind_decls = back decls (called ++ (body ++ scheduled)) (back heads (decls ++ (called ++ (body ++ scheduled))) accepted.known) in
+    let known = front body scheduled (back called (body ++ scheduled) behind_decls) in
     let events = map event_mark job.events in
     let prints = map stmt_mark job.body in
     let calls = map callback_mark job.callbacks in

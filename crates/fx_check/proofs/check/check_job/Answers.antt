@@ -1,4 +1,4 @@
-use Rattle.fx_check.proofs.Parts.{all_accepted, unrefused}
+use Rattle.fx_check.proofs.LineParts.{all_accepted, unrefused}
 use Rattle.fx_check.proofs.check.check_job.Goals as goal
 
 pub returns-clause-accepted : goal.returns-clause-accepted

@@ -1,5 +1,5 @@
 use Rattle.std.proofs.lemmas.Result.{err_from_is_err_and}
-use Rattle.fx_check.proofs.Parts.{names_stop, callbacks_stop, body_stops, events_stop, all_fine}
+use Rattle.fx_check.proofs.LineParts.{names_stop, callbacks_stop, body_stops, events_stop, all_fine}
 use Rattle.fx_check.proofs.check.check_lines.Goals as goal
 
 pub returns-in_err-check_names-clause-exact : goal.returns-in_err-check_names-clause-exact

@@ -1,6 +1,5 @@
 use Rattle.std.specs.Option.{option_copied}
-use Rattle.std.proofs.Common.{◌≡◌, ◌+◌, drop, sym, ◌∙◌}
-use Rattle.fx_check.specs.Facts.{attached_by, attached_in, first_attached}
+use Rattle.std.proofs.Common.{sym, ◌∙◌}
 use Rattle.fx_check.proofs.Gathering.{attached_here, attached_on, branch_attached_here, branch_attached_on, map_some}
 use Rattle.fx_check.proofs.lookup.+attached_in.Goals as goal
 

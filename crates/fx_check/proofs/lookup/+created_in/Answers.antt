@@ -1,5 +1,4 @@
-use Rattle.std.proofs.Common.{◌≡◌, ◌+◌, drop, sym, ◌∙◌}
-use Rattle.fx_check.specs.Facts.{created_by, created_in, first_created}
+use Rattle.std.proofs.Common.{sym, ◌∙◌}
 use Rattle.fx_check.proofs.Gathering.{created_here, created_on, branch_created_here, branch_created_on}
 use Rattle.fx_check.proofs.lookup.+created_in.Goals as goal
 

@@ -1,4 +1,3 @@
-use Rattle.std.proofs.Common.{◌≡◌}
 use Rattle.fx_check.specs.Facts.{attached_in}
 use Rattle.fx_check.proofs.Gathering.{attached_next, attached_step, branch_attaches}
 use Rattle.fx_check.proofs.tables.+gather_attached.Goals as goal

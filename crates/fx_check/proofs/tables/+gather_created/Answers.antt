@@ -1,4 +1,3 @@
-use Rattle.std.proofs.Common.{◌≡◌}
 use Rattle.fx_check.specs.Facts.{created_in}
 use Rattle.fx_check.proofs.Gathering.{created_next, created_step, branch_creates}
 use Rattle.fx_check.proofs.tables.+gather_created.Goals as goal

@@ -6,4 +6,4 @@ pub returns : goal.returns
 returns g c =
     subst (λ (text : List ℕ). Puts (g.K.Sink.written c.args.sink.now) (g.K.Sink.written c.put_lines.new.sink)
     (g.K.Sink.faults c.args.sink.now) (g.K.Sink.faults c.put_lines.new.sink) text c.put_lines.result)
-    (c.as_slice.ensures ∙ c.in_ok-text.ensures) c.put_lines.ensures
+    (c.as_slice.ensures ∙ c.in_ok-text.ensures.canonical) c.put_lines.ensures

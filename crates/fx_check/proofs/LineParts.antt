@@ -1,13 +1,12 @@
 -- The lines of a job, part by part.
-use Rattle.std.proofs.Common.{◌≡◌, ℕ, Bool, true, false, if◌then◌else◌, List, [], ◌++◌, Option, Some, None, Result, Ok, Err, refl, sym, ap, subst, ◌∙◌}
-use Rattle.std.specs.Prelude.{nat_lt, IfOk}
+use Rattle.std.proofs.Common.{◌≡◌, List, [], ◌++◌, Some, None, Result, Ok, Err, sym, ap, subst, ◌∙◌}
+use Rattle.std.specs.Prelude.{IfOk}
 use Rattle.fx_script.specs.declared.job.Job.{Job}
 use Rattle.fx_check.specs.declared.fault.CheckJob.{CheckJob}
 use Rattle.fx_check.specs.declared.fault.CheckJob.TheVariants as check
-use Rattle.fx_check.specs.Acceptance.{Line, Refused, IsAccepted, head_lines, decl_lines, callbacks_lines, stmts_lines, event_lines, lines_of, first_refused, work_refused, refusal_of, Refuses, Answers, IsUnrefused}
+use Rattle.fx_check.specs.Acceptance.{Line, IsAccepted, head_lines, decl_lines, callbacks_lines, stmts_lines, event_lines, lines_of, first_refused, work_refused, refusal_of, Refuses, Answers, IsUnrefused}
 use Rattle.fx_check.specs.Facts.{facts_of}
 use Rattle.fx_check.specs.Rules.{procs_of, body_place}
-use Rattle.fx_check.specs.Work.{work_of}
 use Rattle.fx_check.proofs.Accepting.{none_if_accepted, accepted_if_none}
 use Rattle.fx_check.proofs.Walks.{answers_stop, refuses_on, none_append}
 

@@ -1,0 +1,110 @@
+-- What an accepted job keeps, part by part, and what a refusal says.
+use Rattle.std.proofs.Common.{◌≡◌, ℕ, ◌≤◌, Bool, true, false, not, if◌then◌else◌, ◌&&◌, List, [], ◌∷◌, ◌++◌, Option, Some, None, refl, sym, ap, ◌∙◌, inl, inr, arith}
+use Rattle.std.specs.Prelude.{nat_lt}
+use Rattle.std.specs.List.{AllByRecursion, find}
+use Rattle.std.proofs.lemmas.Bool.{and_parts, ltb-true}
+use Rattle.std.proofs.lemmas.Bool.Decides.{nat_tests}
+use Rattle.fx_script.specs.declared.job.Job.{Job}
+use Rattle.fx_check.specs.declared.fault.StaticFault.{StaticFault}
+use Rattle.fx_check.specs.declared.fault.StaticFault.TheVariants.{UnknownName, NameTwice, OutOfRange, NotUniform, Misplaced, GroupDiffers, MemberDiffers, SubsetOutside, TooMuchWork}
+use Rattle.fx_check.specs.Acceptance.{Line, Refused, IsAccepted, decl_lines, callbacks_lines, stmts_lines, event_lines, head_lines, lines_of, fault_of, first_or, first_refused, work_refused, refusal_of}
+use Rattle.fx_check.specs.Facts.{facts_of}
+use Rattle.fx_check.specs.Parts.{KeepsRules, KeepRules, KeepsByParts, reasons, gives, IsFirstRefused, IsTooMuch, IsRefusal}
+use Rattle.fx_check.specs.Rules.{body_place, is_between, procs_of}
+use Rattle.fx_check.specs.Work.{work_of}
+use Rattle.fx_check.proofs.Accepting.{keeps, all_keep, joined}
+
+-- ---- parts
+
+all_front : (P : Line → Type 0) (a b : List Line) → AllByRecursion P (a ++ b) → AllByRecursion P a
+all_front P [] b all = tt
+all_front P (l ∷ a) b all = (all.0, all_front P a b all.1)
+
+all_behind : (P : Line → Type 0) (a b : List Line) → AllByRecursion P (a ++ b) → AllByRecursion P b
+all_behind P [] b all = all
+all_behind P (l ∷ a) b all = all_behind P a b all.1
+
+not_more : (n : ℕ) → not (nat_lt 16 n) ≡ true → n ≤ 16
+not_more n e = grind (arith, nat_tests)
+
+pub by_parts : (job : Job) → IsAccepted job → KeepsByParts job
+by_parts job is =
+    let all : KeepRules (lines_of job) = joined (lines_of job) is.known is.once is.in_range is.roomy is.uniform is.placed is.same_group is.same_member is.inside in
+    let names = decl_lines [] job.names in
+    let callbacks = callbacks_lines (facts_of job) [] job.callbacks in
+    let body = stmts_lines (facts_of job) job.body body_place in
+    let events = event_lines (procs_of job) 0 job.events in
+    let behind_head = all_behind KeepsRules (head_lines job) (names ++ (callbacks ++ (body ++ events))) all in
+    let behind_names = all_behind KeepsRules names (callbacks ++ (body ++ events)) behind_head in
+    let behind_callbacks = all_behind KeepsRules callbacks (body ++ events) behind_names in
+    let second = and_parts (is_between 0 16 job.spares) (not (nat_lt 16 (procs_of job))) all.1.0.in_range in
+    record {
+      ranks = all.0.in_range;
+      spares = second.0;
+      procs = not_more (procs_of job) second.1;
+      separation = all.1.1.0.in_range;
+      names = all_front KeepsRules names (callbacks ++ (body ++ events)) behind_head;
+      callbacks = all_front KeepsRules callbacks (body ++ events) behind_names;
+      body = all_front KeepsRules body events behind_callbacks;
+      events = all_behind KeepsRules body events behind_callbacks;
+      work = is.work;
+    }
+
+-- ---- refusals
+
+one_limit : (i r : Bool) (later : Option StaticFault) → (if not i then Some OutOfRange else (if not r then Some OutOfRange else later)) ≡ (if not (i && r) then Some OutOfRange else later)
+one_limit true r later = refl
+one_limit false r later = refl
+
+-- the reason that is told is the first in order
+pub least_reason : (l : Line) → fault_of l ≡ find (gives l) reasons
+least_reason l =
+    ap (λ (later : Option StaticFault). if not l.known then Some UnknownName else (if not l.once then Some NameTwice else later))
+    (one_limit l.in_range l.roomy (if not l.uniform then Some NotUniform
+    else (if not l.placed then Some Misplaced
+    else (if not l.same_group then Some GroupDiffers
+    else (if not l.same_member then Some MemberDiffers
+    else (if not l.inside then Some SubsetOutside
+    else None))))))
+
+-- of a line that is refused or isn't, and the lines behind it
+first_by : (l : Line) (ls : List Line) (r : Refused) (o : Option StaticFault) → fault_of l ≡ o → first_or l.spot o (first_refused ls) ≡ Some r
+    → (first_refused ls ≡ Some r → IsFirstRefused ls r) → IsFirstRefused (l ∷ ls) r
+first_by l ls r (Some fault) told e later =
+    let same : record { fault = fault; spot = l.spot } ≡ r = cc in
+    record {
+      front = [];
+      line = l;
+      behind = ls;
+      are = refl;
+      kept = tt;
+      spot = ap (λ (x : Refused). x.spot) same;
+      fault = sym (least_reason l) ∙ told ∙ ap (λ (x : Refused). Some x.fault) same;
+    }
+first_by l ls r None told e later =
+    let f = later e in
+    record {
+      front = l ∷ f.front;
+      line = f.line;
+      behind = f.behind;
+      are = ap (λ (x : List Line). l ∷ x) f.are;
+      kept = (keeps l told, f.kept);
+      spot = f.spot;
+      fault = f.fault;
+    }
+
+first_of : (ls : List Line) (r : Refused) → first_refused ls ≡ Some r → IsFirstRefused ls r
+first_of [] r e = absurd cc
+first_of (l ∷ ls) r e = first_by l ls r (fault_of l) refl e (first_of ls r)
+
+much_by : (job : Job) (r : Refused) (b : Bool) → nat_lt 20000 (work_of job.body) ≡ b → KeepRules (lines_of job)
+    → (if b then Some (record { fault = TooMuchWork; spot = job.begin_spot }) else None) ≡ Some r → IsTooMuch job r
+much_by job r true much kept e = record { kept = kept; much = ltb-true 20000 (work_of job.body) much; is = cc }
+much_by job r false much kept e = absurd cc
+
+refusal_by : (job : Job) (r : Refused) (o : Option Refused) → first_refused (lines_of job) ≡ o → work_refused job o ≡ Some r → IsRefusal job r
+refusal_by job r (Some first) is e = inl (first_of (lines_of job) r (is ∙ e))
+refusal_by job r None is e = inr (much_by job r (nat_lt 20000 (work_of job.body)) refl (all_keep (lines_of job) is) e)
+
+pub is_refusal : (job : Job) (r : Refused) → refusal_of job ≡ Some r → IsRefusal job r
+is_refusal job r e = refusal_by job r (first_refused (lines_of job)) refl e
