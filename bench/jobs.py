@@ -12,10 +12,10 @@ def job(ranks, length, body):
     return HEAD.format(ranks, length) + body + TAIL
 
 
-def filled(size, piece, before="", behind=""):
-    """A job of at most `size` bytes that is read and then refused at its second line, with `piece` again and again."""
-    room = size - len(job(2, 1, before + behind))
-    return job(2, 1, before + piece * (room // len(piece)) + behind)
+def filled(size, start, piece, behind):
+    """A job of at most `size` bytes with `piece` again and again between a start and what is behind."""
+    room = size - len(start) - len(behind)
+    return start + piece * (room // len(piece)) + behind
 
 
 def padded(line):
@@ -30,7 +30,7 @@ def jobs():
     yield "prints_20000", job(1, 256, "print a\n" * 20_000)
     yield "source_1mb", job(1, 1, ("print" + " " * 45 + "a\n") * 20_000)
 
-    # What is read alone.
+    # What is read alone: 17 ranks are refused at the second line.
     opened, closed = "when initial\n" * 64, "endwhen\n" * 64
     signs = (LONGEST_LINE - len("let a 1")) // len("+ 1 ")
     kinds = {
@@ -45,7 +45,32 @@ def jobs():
     }
     for name, (piece, before, behind) in kinds.items():
         for label, size in (("100kb", 102_400), ("1mb", LONGEST_JOB)):
-            yield f"read_{name}_{label}", filled(size, piece, before, behind)
+            yield f"read_{name}_{label}", filled(size, HEAD.format(17, 1) + before, piece, behind + TAIL)
+
+    # What is checked to its end. All but the events and the wide prints are then too much work.
+    names = "".join(f"array a{k} 256\n" for k in range(8)) + "".join(f"counter c{k}\n" for k in range(16))
+    groups = "".join(f"group {g} 0 0\n" for g in range(8))
+    members = "".join(f"member {g} {m} a7\n" for g in range(8) for m in range(8))
+    start = "fenix 1\nranks 1\nspares 0\nseparation 1\n" + names + "begin\n" + groups + members
+    opened, closed = "if lt c15 c14\n" * 8, "endif\n" * 8
+    kinds = {
+        "prints": "print a7\n",
+        "blocks": opened + closed,
+        "names": "let a7" + " +" * 150 + " a7" * 151 + "\n",
+        "groups": "set c15" + " + latest 7" * 60 + " 1\n",
+        "commits": "commit 7\n",
+        "members": "member 7 7 a7\n",
+        "strided": "store 7 7 strided 128 0 0 2\n",
+        "ranges": "store 7 7 ranges" + " 0 255 9 9" * 8 + "\n",
+    }
+    for name, piece in kinds.items():
+        for label, size in (("100kb", 102_400), ("1mb", LONGEST_JOB)):
+            yield f"check_{name}_{label}", filled(size, start, piece, TAIL)
+    # An unknown group in front of all that could create it.
+    for label, size in (("100kb", 102_400), ("1mb", LONGEST_JOB)):
+        yield f"check_unknown_{label}", filled(size, start + "commit 9\n", "group 8 0 0\n", TAIL)
+    yield "check_events_700kb", start + "end\nschedule\n" + "step 0\n" * 100_000 + "stop\n"
+    yield "check_wide_prints_1mb", job(1, 1, ("print" + " " * 45 + "a\n") * 20_000)
 
 
 def main():

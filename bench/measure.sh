@@ -23,7 +23,11 @@ instructions() {
 echo "start alone: $(instructions < /dev/null) instructions"
 printf '%-38s %9s %10s %13s %8s\n' job read written instructions 'per byte'
 for file in "$jobs"/*.job; do
-    count=$(instructions run < "$file")
+    case $file in
+    */check_*) mode=check ;;
+    *) mode=run ;;
+    esac
+    count=$(instructions "$mode" < "$file")
     read=$(stat -c %s "$file")
     written=$(stat -c %s "$jobs/out")
     awk -v name="$(basename "$file" .job)" -v read="$read" -v written="$written" -v count="$count" \

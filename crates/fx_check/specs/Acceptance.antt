@@ -1,5 +1,5 @@
 -- Which jobs are accepted, and at which line and for which reason any other is refused.
-use Rattle.std.specs.Prelude.{◌≡◌, ℕ, ◌+◌, ◌≤◌, Bool, true, not, ◌&&◌, ◌||◌, nat_lt, if◌then◌else◌, List, [], ◌∷◌, ◌++◌, length, map, Option, Some, None, Result, Ok, Err}
+use Rattle.std.specs.Prelude.{◌≡◌, ℕ, ◌+◌, ◌≤◌, Bool, true, not, ◌&&◌, ◌||◌, nat_lt, if◌then◌else◌, List, [], ◌∷◌, ◌++◌, length, map, Option, Some, None, Result, Ok, Err, codes, pos, refl}
 use Rattle.std.specs.List.{AllByRecursion, filter, list_any}
 use Rattle.fx_base.specs.declared.spot.Spot.{Spot}
 use Rattle.fx_script.specs.declared.job.Callback.{Callback}
@@ -235,3 +235,23 @@ abbrev pub IsUnrefused : {X : Type 0} → Result X CheckJob → Type 0
 IsUnrefused (Ok x) = Unit {0}
 IsUnrefused (Err (check.Refused fault spot)) = ⊥
 IsUnrefused (Err check.NoMemory) = Unit {0}
+
+-- a job that declares an array twice
+abbrev twice : Job
+twice = record {
+  ranks = pos 1;
+  spares = pos 0;
+  separation = pos 1;
+  ranks_spot = record { line = 2; column = 1 };
+  spares_spot = record { line = 3; column = 1 };
+  separation_spot = record { line = 4; column = 1 };
+  begin_spot = record { line = 7; column = 1 };
+  names = decl.Array (record { line = 5; column = 1 }) (codes "a") (pos 3) ∷ decl.Array (record { line = 6; column = 1 }) (codes "a") (pos 999) ∷ [];
+  callbacks = [];
+  body = [];
+  events = [];
+}
+
+-- the second line is refused, for its name before its length
+refused_twice : refusal_of twice ≡ Some (record { fault = NameTwice; spot = record { line = 6; column = 1 } })
+refused_twice = refl

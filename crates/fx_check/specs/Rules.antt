@@ -1,9 +1,12 @@
 -- The rules that each line of an accepted job keeps.
-use Rattle.std.specs.Prelude.{◌≡◌, ℕ, ◌+◌, ℤ, pos, negsuc, Bool, true, false, not, ◌&&◌, ◌||◌, nat_le, nat_lt, List, map, Option, Some, None, refl}
+use Rattle.std.specs.Prelude.{◌≡◌, ℕ, ◌+◌, ℤ, pos, negsuc, Bool, true, false, not, ◌&&◌, ◌||◌, nat_le, nat_lt, List, map, Option, Some, None, refl, codes, []}
 use Rattle.std.specs.List.{list_all}
 use Rattle.std.specs.Ordering.{int_eq}
 use Rattle.std.specs.Str.{bytes_eq}
+use Rattle.fx_base.specs.declared.names.Role.TheVariants.{Initial}
+use Rattle.fx_base.specs.declared.spot.Spot.{Spot}
 use Rattle.fx_script.specs.declared.expr.Expr.{Expr}
+use Rattle.fx_script.specs.declared.expr.Expr.TheVariants as expr
 use Rattle.fx_script.specs.declared.expr.Expr.TheOpen.{Expr-F}
 use Rattle.fx_script.specs.declared.expr.Expr.TheFolds.{fold-Expr}
 use Rattle.fx_script.specs.declared.job.Decl.{Decl}
@@ -280,3 +283,23 @@ is_event_in_range procs (event.Run rounds) = is_between 1 1000 rounds
 -- three processes are numbered 0 to 2
 no_fourth : is_event_in_range 3 (event.Deliver (pos 2) (pos 3)) ≡ false
 no_fourth = refl
+
+-- a line of its own for the rows below
+abbrev row_spot : Spot
+row_spot = record { line = 9; column = 1 }
+
+-- no counter is set inside `when`
+no_set_inside_when : (f : Facts) → is_uniform {X = ℕ} f (inside_when body_place) (Stmt-F.Set row_spot (codes "c") (expr.Number (pos 1))) ≡ false
+no_set_inside_when f = refl
+
+-- no rank waits for the others in a callback
+no_barrier_in_callback : is_placed {X = ℕ} (callback_place 0) (Stmt-F.Barrier row_spot) ≡ false
+no_barrier_in_callback = refl
+
+-- the ninth block of those in one another
+no_ninth_block : has_room {X = ℕ} (record body_place { blocks = 8 }) (Stmt-F.RoleOnly row_spot Initial []) ≡ false
+no_ninth_block = refl
+
+-- a shift of 16 places
+no_far_shift : (f : Facts) → is_in_range {X = ℕ} f (Stmt-F.Shift row_spot (codes "a") (codes "a") (pos 16)) ≡ false
+no_far_shift f = refl
