@@ -47,7 +47,7 @@ def jobs():
         for label, size in (("100kb", 102_400), ("1mb", LONGEST_JOB)):
             yield f"read_{name}_{label}", filled(size, HEAD.format(17, 1) + before, piece, behind + TAIL)
 
-    # What is checked to its end. All but the events and the wide prints are then too much work.
+    # What is checked to its end.
     names = "".join(f"array a{k} 256\n" for k in range(8)) + "".join(f"counter c{k}\n" for k in range(16))
     groups = "".join(f"group {g} 0 0\n" for g in range(8))
     members = "".join(f"member {g} {m} a7\n" for g in range(8) for m in range(8))
