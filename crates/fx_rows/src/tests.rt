@@ -1,0 +1,156 @@
+use fx_base::Bytes;
+use fx_cli::{code, fenix_in_memory};
+use std::alloc::Global;
+use std::test::Fail;
+
+// A row: what it shows, the words, the source, all that is written, and the code. A bar stands for a line end.
+struct Row {
+    shows: &'static str,
+    words: &'static str,
+    source: &'static str,
+    written: &'static str,
+    code: u8,
+}
+
+const RUN_ROWS: [Row; 7] = [
+    Row {
+        shows: "the prints of one rank",
+        words: "run",
+        source: "fenix 1|ranks 1|spares 0|separation 1|array a 3|begin|print a|print a|end|schedule|stop|",
+        written: "join 0 1 start|repaired 0 1 1 full : 0=0|init 0 1 initial 0 0 1 full|print 0 1 a : 0 0 0|print 0 1 a : 0 0 0|join 0 2 final|ended 0|",
+        code: 0,
+    },
+    Row {
+        shows: "an empty source",
+        words: "run",
+        source: "",
+        written: "fenix: bad job: MissingPart at 1:1|",
+        code: 3,
+    },
+    Row {
+        shows: "a word too many",
+        words: "run run",
+        source: "fenix 1|ranks 1|spares 0|separation 1|array a 3|begin|print a|print a|end|schedule|stop|",
+        written: "fenix: bad words|",
+        code: 2,
+    },
+    Row {
+        shows: "another word",
+        words: "walk",
+        source: "fenix 1|ranks 1|spares 0|separation 1|array a 3|begin|print a|print a|end|schedule|stop|",
+        written: "fenix: bad words|",
+        code: 2,
+    },
+    Row {
+        shows: "a line without its end",
+        words: "run",
+        source: "fenix 1",
+        written: "fenix: bad job: BadLine at 1:8|",
+        code: 3,
+    },
+    Row {
+        shows: "a number that is too wide",
+        words: "run",
+        source: "fenix 1|ranks 9223372036854775808|",
+        written: "fenix: bad job: BadNumber at 2:7|",
+        code: 3,
+    },
+    Row {
+        shows: "two ranks",
+        words: "run",
+        source: "fenix 1|ranks 2|spares 0|separation 1|begin|barrier|end|schedule|stop|",
+        written: "fenix: bad job: NotBuilt at 2:1|",
+        code: 3,
+    },
+];
+
+const CHECK_ROWS: [Row; 6] = [
+    Row {
+        shows: "spaces and a comment",
+        words: "check",
+        source: "fenix 1|ranks 1|spares  0|separation 1|array a 3|# note|begin|print a|print a|end|schedule|stop|",
+        written: "fenix 1|ranks 1|spares 0|separation 1|array a 3|begin|print a|print a|end|schedule|stop|",
+        code: 0,
+    },
+    Row {
+        shows: "a barrier inside `when`",
+        words: "check",
+        source: "fenix 1|ranks 1|spares 0|separation 1|array a 3|begin|when recovered|barrier|endwhen|print a|end|schedule|stop|",
+        written: "fenix: bad job: Misplaced at 8:1|",
+        code: 3,
+    },
+    Row {
+        shows: "a counter that differs between ranks",
+        words: "check",
+        source: "fenix 1|ranks 1|spares 0|separation 1|array a 3|counter c|begin|set c rank|print a|end|schedule|stop|",
+        written: "fenix: bad job: NotUniform at 8:1|",
+        code: 3,
+    },
+    Row {
+        shows: "a pair past the end of the array",
+        words: "check",
+        source: "fenix 1|ranks 3|spares 0|separation 1|array a 2|begin|group 0 5 0|member 0 0 a|when initial|let a + rank 7|endwhen|restore 0 0 5|store 0 0 ranges 1 2|commitbarrier 0|end|schedule|run 6|kill 1|stop|",
+        written: "fenix: bad job: SubsetOutside at 13:1|",
+        code: 3,
+    },
+    Row {
+        shows: "a loop of 10,000 turns",
+        words: "check",
+        source: "fenix 1|ranks 1|spares 0|separation 1|array a 3|counter c|begin|for c 0 9999|print a|endfor|end|schedule|stop|",
+        written: "fenix: bad job: TooMuchWork at 7:1|",
+        code: 3,
+    },
+    Row {
+        shows: "a loop of 9,999 turns",
+        words: "check",
+        source: "fenix 1|ranks 1|spares 0|separation 1|array a 3|counter c|begin|for c 0 9998|print a|endfor|end|schedule|stop|",
+        written: "fenix 1|ranks 1|spares 0|separation 1|array a 3|counter c|begin|for c 0 9998|print a|endfor|end|schedule|stop|",
+        code: 0,
+    },
+];
+
+fn bytes_of(alloc: Global, table: &str) -> Result<Bytes, Fail> {
+    let mut bytes = Bytes::new(alloc);
+    for byte in table.as_bytes() {
+        bytes.push(if *byte == b'|' { b'\n' } else { *byte })?;
+    }
+    Ok(bytes)
+}
+
+fn words_of(alloc: Global, line: &str) -> Result<Vec<String>, Fail> {
+    let mut words = Vec::new(alloc);
+    for word in line.split_ascii_whitespace() {
+        words.push(String::from_str(alloc, word)?)?;
+    }
+    Ok(words)
+}
+
+// The code and all that is written.
+fn answer_to(alloc: Global, row: &Row) -> Result<(u8, Bytes), Fail> {
+    let words = words_of(alloc, row.words)?;
+    let source = bytes_of(alloc, row.source)?;
+    let (status, sink) = fenix_in_memory(alloc, words.as_slice(), source);
+    Ok((code(&status), sink.written().copy()?))
+}
+
+#[test]
+fn jobs_are_run(rt: HostRuntime) -> Result<(), Fail> {
+    for row in RUN_ROWS.iter() {
+        let (code, written) = answer_to(rt.alloc(), row)?;
+        let due = bytes_of(rt.alloc(), row.written)?;
+        assert_eq!(rt; code, row.code, "at {}", row.shows);
+        assert_eq!(rt; written.as_slice(), due.as_slice(), "at {}", row.shows);
+    }
+    Ok(())
+}
+
+#[test]
+fn jobs_are_checked(rt: HostRuntime) -> Result<(), Fail> {
+    for row in CHECK_ROWS.iter() {
+        let (code, written) = answer_to(rt.alloc(), row)?;
+        let due = bytes_of(rt.alloc(), row.written)?;
+        assert_eq!(rt; code, row.code, "at {}", row.shows);
+        assert_eq!(rt; written.as_slice(), due.as_slice(), "at {}", row.shows);
+    }
+    Ok(())
+}
