@@ -20,11 +20,10 @@ pub fn stores_inside(
     alloc: Global,
     job: &Job,
     tables: &Tables,
-    place: Place,
     statement: &Stmt,
 ) -> Result<bool, NoMemory>
     requires { AreTables tables.now job.now.body }
-    ensures { IfOk result (λ inside. inside ≡ (line_of (facts_of job.now) place statement.now).inside) }
+    ensures { (place : Place) → IfOk result (λ inside. inside ≡ (line_of (facts_of job.now) place statement.now).inside) }
 {
     match statement {
         Stmt::Store {

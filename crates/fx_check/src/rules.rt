@@ -1,6 +1,6 @@
 ghost use Rattle.std.specs.Prelude.{◌≡◌, ◌&&◌};
 ghost use Rattle.fx_check.specs.Acceptance.{line_of};
-ghost use Rattle.fx_check.specs.Facts.{AreTables, array_in, facts_of, has_member};
+ghost use Rattle.fx_check.specs.Facts.{AreTables, Facts, array_in, facts_of, has_member};
 ghost use Rattle.fx_check.specs.Rules.{expr_alike, expr_groups, is_same_attachment, is_same_creation};
 
 use crate::exprs::{expr_alike, expr_groups, expr_known, expr_uniform, has_group};
@@ -29,9 +29,9 @@ const MOST_LOOPS: u32 = 4;
 const MOST_CALLED: u64 = 16;
 
 /// Whether a statement names only what is declared, each as the kind that is needed.
-pub fn is_known(job: &Job, tables: &Tables, place: Place, statement: &Stmt) -> bool
+pub fn is_known(job: &Job, tables: &Tables, statement: &Stmt) -> bool
     requires { AreTables tables.now job.now.body }
-    ensures { result ≡ (line_of (facts_of job.now) place statement.now).known }
+    ensures { (place : Place) → result ≡ (line_of (facts_of job.now) place statement.now).known }
 {
     let names = job.names.as_slice();
     match statement {
@@ -92,8 +92,8 @@ fn has_member(job: &Job, tables: &Tables, group: i64, member: i64) -> bool
 }
 
 /// Whether the numbers of a statement are within their limits, and the arrays that it puts together of one length.
-pub fn is_in_range(job: &Job, place: Place, statement: &Stmt) -> bool
-    ensures { result ≡ (line_of (facts_of job.now) place statement.now).in_range }
+pub fn is_in_range(job: &Job, statement: &Stmt) -> bool
+    ensures { (place : Place) → result ≡ (line_of (facts_of job.now) place statement.now).in_range }
 {
     let names = job.names.as_slice();
     match statement {
@@ -155,8 +155,8 @@ fn is_let_in_range(job: &Job, array: &[u8], value: &Expr) -> bool
 }
 
 /// Whether there is room for a statement: in the blocks and loops that are open, and in its callback.
-pub fn has_room(job: &Job, place: Place, statement: &Stmt) -> bool
-    ensures { result ≡ (line_of (facts_of job.now) place statement.now).roomy }
+pub fn has_room(place: Place, statement: &Stmt) -> bool
+    ensures { (facts : Facts) → result ≡ (line_of facts place statement.now).roomy }
 {
     let called = place.before < MOST_CALLED;
     match statement {
@@ -181,8 +181,8 @@ pub fn is_uniform(job: &Job, place: Place, statement: &Stmt) -> bool
 }
 
 /// Whether a statement may stand inside `when` or in a callback, where it stands there.
-pub fn is_placed(job: &Job, place: Place, statement: &Stmt) -> bool
-    ensures { result ≡ (line_of (facts_of job.now) place statement.now).placed }
+pub fn is_placed(place: Place, statement: &Stmt) -> bool
+    ensures { (facts : Facts) → result ≡ (line_of facts place statement.now).placed }
 {
     match statement {
         Stmt::Let { .. } | Stmt::Print { .. } => true,
@@ -199,9 +199,9 @@ pub fn is_placed(job: &Job, place: Place, statement: &Stmt) -> bool
 }
 
 /// Whether a statement creates its group as the first that creates it does.
-pub fn agrees_on_group(job: &Job, tables: &Tables, place: Place, statement: &Stmt) -> bool
+pub fn agrees_on_group(job: &Job, tables: &Tables, statement: &Stmt) -> bool
     requires { AreTables tables.now job.now.body }
-    ensures { result ≡ (line_of (facts_of job.now) place statement.now).same_group }
+    ensures { (place : Place) → result ≡ (line_of (facts_of job.now) place statement.now).same_group }
 {
     match statement {
         Stmt::Group {
@@ -218,9 +218,9 @@ pub fn agrees_on_group(job: &Job, tables: &Tables, place: Place, statement: &Stm
 }
 
 /// Whether a statement attaches to its member the array that the first that attaches it does.
-pub fn agrees_on_member(job: &Job, tables: &Tables, place: Place, statement: &Stmt) -> bool
+pub fn agrees_on_member(job: &Job, tables: &Tables, statement: &Stmt) -> bool
     requires { AreTables tables.now job.now.body }
-    ensures { result ≡ (line_of (facts_of job.now) place statement.now).same_member }
+    ensures { (place : Place) → result ≡ (line_of (facts_of job.now) place statement.now).same_member }
 {
     match statement {
         Stmt::Member {

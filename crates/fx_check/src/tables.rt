@@ -6,6 +6,9 @@ use fx_base::{Bytes, NoMemory, Seq};
 use fx_script::Stmt;
 use std::alloc::Global;
 
+/// The greatest number of a group, and of a member.
+const LAST_EIGHTH: i64 = 7;
+
 /// A group that a statement creates, with its start stamp and its depth.
 #[derive(Clone, Copy, Debug, PartialEq, Eq)]
 pub struct Created {
@@ -46,7 +49,7 @@ impl Tables {
 pub fn is_eighth(number: i64) -> bool
     ensures { result ≡ is_eighth number }
 {
-    number >= 0 && number <= 7
+    0 <= number && number <= LAST_EIGHTH
 }
 
 // ---- groups

@@ -1,6 +1,6 @@
 ghost use Rattle.std.specs.Prelude.{◌≡◌, ◌≤◌, IfOk, Ok};
 ghost use Rattle.fx_check.specs.Acceptance.{Answers, callback_body_lines, fault_of, first_refused, line_of, stmt_lines, stmts_lines};
-ghost use Rattle.fx_check.specs.Facts.{AreTables, facts_of};
+ghost use Rattle.fx_check.specs.Facts.{AreTables, Facts, facts_of};
 
 use crate::fault::{CheckJob, StaticFault};
 use crate::inside::stores_inside;
@@ -24,27 +24,27 @@ fn fault_at(
     requires { AreTables tables.now job.now.body }
     ensures { IfOk result (λ fault. fault ≡ fault_of (line_of (facts_of job.now) place statement.now)) }
 {
-    if !is_known(job, tables, place, statement) {
+    if !is_known(job, tables, statement) {
         Ok(Some(StaticFault::UnknownName))
-    } else if !is_in_range(job, place, statement) || !has_room(job, place, statement) {
+    } else if !is_in_range(job, statement) || !has_room(place, statement) {
         Ok(Some(StaticFault::OutOfRange))
     } else if !is_uniform(job, place, statement) {
         Ok(Some(StaticFault::NotUniform))
-    } else if !is_placed(job, place, statement) {
+    } else if !is_placed(place, statement) {
         Ok(Some(StaticFault::Misplaced))
-    } else if !agrees_on_group(job, tables, place, statement) {
+    } else if !agrees_on_group(job, tables, statement) {
         Ok(Some(StaticFault::GroupDiffers))
-    } else if !agrees_on_member(job, tables, place, statement) {
+    } else if !agrees_on_member(job, tables, statement) {
         Ok(Some(StaticFault::MemberDiffers))
-    } else if !stores_inside(alloc, job, tables, place, statement)? {
+    } else if !stores_inside(alloc, job, tables, statement)? {
         Ok(Some(StaticFault::SubsetOutside))
     } else {
         Ok(None)
     }
 }
 
-fn stmt_spot(place: Place, job: &Job, statement: &Stmt) -> Spot
-    ensures { result ≡ (line_of (facts_of job.now) place statement.now).spot }
+fn stmt_spot(statement: &Stmt) -> Spot
+    ensures { (facts : Facts) (place : Place) → result ≡ (line_of facts place statement.now).spot }
 {
     match statement {
         Stmt::Let { spot, .. }
@@ -102,7 +102,7 @@ pub fn check_stmt(
     ensures { Answers result (first_refused (stmt_lines (facts_of job.now) statement.now place)) }
 {
     if let Some(fault) = fault_at(alloc, job, tables, place, statement)? {
-        return Err(CheckJob::Refused(fault, stmt_spot(place, job, statement)));
+        return Err(CheckJob::Refused(fault, stmt_spot(statement)));
     }
     match statement {
         Stmt::RoleOnly { body, .. } => {

@@ -4,6 +4,6 @@ use Rattle.fx_check.proofs.FirstLines.{let_in_range}
 use Rattle.fx_check.proofs.rules.is_in_range.Goals as goal
 
 pub returns-in-Let : goal.returns-in-Let
-returns-in-Let c =
+returns-in-Let c = λ place.
     rw c.as_slice.ensures at c.is_let_in_range.ensures
-    ∙ sym (let_in_range (facts_of c.args.job.now) c.args.place c.args.statement.now c.in-Let.spot c.in-Let.array c.in-Let.value c.in-Let.is)
+    ∙ sym (let_in_range (facts_of c.args.job.now) place c.args.statement.now c.in-Let.spot c.in-Let.array c.in-Let.value c.in-Let.is)
