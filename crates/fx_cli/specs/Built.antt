@@ -9,8 +9,8 @@ use Rattle.fx_script.specs.declared.job.Decl.TheVariants as decl
 use Rattle.fx_script.specs.declared.job.Job.{Job}
 use Rattle.fx_script.specs.declared.job.Stmt.{Stmt}
 use Rattle.fx_script.specs.declared.job.Stmt.TheVariants as stmt
-use Rattle.fx_script.specs.declared.job.Stmt.TheOpen.{Stmt-F}
 use Rattle.fx_script.specs.declared.job.Stmt.TheFolds.{fold-Stmt}
+use Rattle.fx_check.specs.Acceptance.{spot_level}
 use Rattle.fx_cli.specs.Plan.{Named, Plan}
 
 -- a line of a job: its place, and whether what it says can be run
@@ -36,28 +36,7 @@ decl_mark (decl.Counter spot name) = mark spot false
 abbrev pub callback_mark : Callback → Mark
 callback_mark callback = mark callback.spot false
 
--- the place of one level of a statement; of a block, that of its first line
-abbrev pub spot_level : Stmt-F Spot → Spot
-spot_level (Stmt-F.Let spot array value) = spot
-spot_level (Stmt-F.Set spot counter value) = spot
-spot_level (Stmt-F.Print spot name) = spot
-spot_level (Stmt-F.Register spot name) = spot
-spot_level (Stmt-F.RoleOnly spot role body) = spot
-spot_level (Stmt-F.Branch spot test left right chosen other) = spot
-spot_level (Stmt-F.Loop spot counter first last body) = spot
-spot_level (Stmt-F.Barrier spot) = spot
-spot_level (Stmt-F.Reduce spot op counter array) = spot
-spot_level (Stmt-F.Agree spot counter array index) = spot
-spot_level (Stmt-F.Shift spot source target by) = spot
-spot_level (Stmt-F.Group spot group start depth) = spot
-spot_level (Stmt-F.Member spot group member array) = spot
-spot_level (Stmt-F.Store spot group member subset) = spot
-spot_level (Stmt-F.Commit spot group) = spot
-spot_level (Stmt-F.CommitBarrier spot group) = spot
-spot_level (Stmt-F.Restore spot group member stamp) = spot
-spot_level (Stmt-F.Drop spot group stamp) = spot
-
--- the place of a statement
+-- the place of a statement; of a block, that of its first line
 abbrev pub stmt_spot : Stmt → Spot
 stmt_spot = fold-Stmt Spot spot_level
 

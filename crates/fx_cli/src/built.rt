@@ -80,23 +80,23 @@ fn stmt_spot(statement: &Stmt) -> Spot
     ensures { result ≡ stmt_spot statement.now }
 {
     match statement {
-        Stmt::Let { spot, .. } => *spot,
-        Stmt::Set { spot, .. } => *spot,
-        Stmt::Print { spot, .. } => *spot,
-        Stmt::Register { spot, .. } => *spot,
-        Stmt::RoleOnly { spot, .. } => *spot,
-        Stmt::Branch { spot, .. } => *spot,
-        Stmt::Loop { spot, .. } => *spot,
-        Stmt::Barrier { spot, .. } => *spot,
-        Stmt::Reduce { spot, .. } => *spot,
-        Stmt::Agree { spot, .. } => *spot,
-        Stmt::Shift { spot, .. } => *spot,
-        Stmt::Group { spot, .. } => *spot,
-        Stmt::Member { spot, .. } => *spot,
-        Stmt::Store { spot, .. } => *spot,
-        Stmt::Commit { spot, .. } => *spot,
-        Stmt::CommitBarrier { spot, .. } => *spot,
-        Stmt::Restore { spot, .. } => *spot,
-        Stmt::Drop { spot, .. } => *spot,
+        Stmt::Let { spot, .. }
+        | Stmt::Set { spot, .. }
+        | Stmt::Print { spot, .. }
+        | Stmt::Register { spot, .. }
+        | Stmt::RoleOnly { spot, .. }
+        | Stmt::Branch { spot, .. }
+        | Stmt::Loop { spot, .. }
+        | Stmt::Barrier { spot, .. }
+        | Stmt::Reduce { spot, .. }
+        | Stmt::Agree { spot, .. }
+        | Stmt::Shift { spot, .. }
+        | Stmt::Group { spot, .. }
+        | Stmt::Member { spot, .. }
+        | Stmt::Store { spot, .. }
+        | Stmt::Commit { spot, .. }
+        | Stmt::CommitBarrier { spot, .. }
+        | Stmt::Restore { spot, .. }
+        | Stmt::Drop { spot, .. } => *spot,
     }
 }
