@@ -42,7 +42,7 @@ impl Accepted {
         Accepted { job, procs, work }
     }
 
-    /// The job.
+    /// The job. It keeps every rule, as a whole and part by part, and some text spells it, its spots aside.
     pub fn job(&self) -> &Job
         ensures same { result.now ≡ self.now }
         ensures accepted { IsAccepted self.now }
@@ -61,7 +61,8 @@ impl Accepted {
         self.procs
     }
 
-    /// The most statements that one pass may take, at most 20,000.
+    /// The work of the body, at most 20,000: a statement counts 1, and a loop its test and its statements for each
+    /// turn that it may take.
     pub fn work(&self) -> u32
         ensures same { result ≡ work_of self.now.body }
         ensures at_most { result ≤ 20000 }
@@ -69,8 +70,8 @@ impl Accepted {
         self.work
     }
 
-    /// The most fair rounds that a tail may take: with P processes and the work W,
-    /// P * (2P + 2) * (W + 2) * (P + 8), at most 261,146,112.
+    /// The bound for the fair rounds of a tail: with P processes and the work W, it is
+    /// P * (2P + 2) * (W + 2) * (P + 8), at most 261,146,112. No contract ties it to a run yet.
     pub fn bound(&self) -> u64
         ensures same { result ≡ bound_of self.now }
         ensures at_most { result ≤ 261146112 }

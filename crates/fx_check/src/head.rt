@@ -9,19 +9,19 @@ use crate::lookup::{decl_spot, is_declared, name_of};
 use crate::range::{is_between, is_process};
 use fx_script::{Decl, Event, EventKind, Job};
 
-/// The most processes, ranks and spares together, and the greatest separation.
+// The most processes, ranks and spares together, and the greatest separation.
 const MOST_PROCS: u32 = 16;
 
 const LAST_SEPARATION: u32 = 15;
 
-/// The most arrays, elements of an array, and counters.
+// The most arrays, elements of an array, and counters.
 const MOST_ARRAYS: usize = 8;
 
 const MOST_ELEMENTS: u32 = 256;
 
 const MOST_COUNTERS: usize = 16;
 
-/// The most events, and the most rounds of one `run`.
+// The most events, and the most rounds of one `run`.
 const MOST_EVENTS: usize = 100_000;
 
 const MOST_ROUNDS: u32 = 1_000;

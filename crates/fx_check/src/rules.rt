@@ -12,7 +12,7 @@ use crate::range::{are_alike, is_between, is_index_if, picked_fits_32};
 use crate::tables::{Tables, is_eighth};
 use fx_script::{Expr, Job, Stmt};
 
-/// The greatest start stamp, depth, distance of a shift and last value of a loop.
+// The greatest start stamp, depth, distance of a shift and last value of a loop.
 const LAST_START: u32 = 1_000_000_000;
 
 const LAST_DEPTH: u32 = 15;
@@ -21,7 +21,7 @@ const LAST_SHIFT: u32 = 15;
 
 const LAST_TURN: u32 = 9_999;
 
-/// How many blocks and loops may stand in one another, and how many statements a callback may have.
+// How many blocks and loops may stand in one another, and how many statements a callback may have.
 const MOST_BLOCKS: u32 = 8;
 
 const MOST_LOOPS: u32 = 4;
