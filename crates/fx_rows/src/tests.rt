@@ -154,3 +154,29 @@ fn jobs_are_checked(rt: HostRuntime) -> Result<(), Fail> {
     }
     Ok(())
 }
+
+#[test]
+fn a_schedule_has_at_most_100_000_events(rt: HostRuntime) -> Result<(), Fail> {
+    let alloc = rt.alloc();
+    let words = words_of(alloc, "check")?;
+    for (events, due) in [
+        (100_000, None),
+        (100_001, Some("fenix: bad job: OutOfRange at 100008:1|")),
+    ] {
+        let mut source = bytes_of(
+            alloc,
+            "fenix 1|ranks 1|spares 0|separation 1|begin|end|schedule|",
+        )?;
+        for _ in 0..events {
+            source.append(b"step 0\n")?;
+        }
+        source.append(b"stop\n")?;
+        let due = match due {
+            Some(line) => bytes_of(alloc, line)?,
+            None => source.copy()?,
+        };
+        let (_, sink) = fenix_in_memory(alloc, words.as_slice(), source);
+        assert!(rt; *sink.written() == due, "at {events} events");
+    }
+    Ok(())
+}
