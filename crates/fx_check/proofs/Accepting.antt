@@ -53,7 +53,7 @@ all_keep (l ∷ ls) e =
     let parts = none_or l.spot (fault_of l) (first_refused ls) e in
     (keeps l parts.0, all_keep ls parts.1)
 
-none_refused : (ls : List Line) → AllByRecursion KeepsRules ls → first_refused ls ≡ None
+pub none_refused : (ls : List Line) → AllByRecursion KeepsRules ls → first_refused ls ≡ None
 none_refused [] all = refl
 none_refused (l ∷ ls) all = rw (no_fault l all.0) (none_refused ls all.1)
 

@@ -2,17 +2,19 @@
 use Rattle.std.proofs.Common.{◌≡◌, ℕ, ◌≤◌, Bool, true, false, not, if◌then◌else◌, ◌&&◌, List, [], ◌∷◌, ◌++◌, Option, Some, None, refl, sym, ap, ◌∙◌, inl, inr, arith}
 use Rattle.std.specs.Prelude.{nat_lt}
 use Rattle.std.specs.List.{AllByRecursion, find}
-use Rattle.std.proofs.lemmas.Bool.{and_parts, ltb-true}
+use Rattle.std.proofs.lemmas.Bool.{and_parts, ltb-true, lt-ltb}
 use Rattle.std.proofs.lemmas.Bool.Decides.{nat_tests}
+use Rattle.fx_base.specs.declared.spot.Spot.{Spot}
 use Rattle.fx_script.specs.declared.job.Job.{Job}
 use Rattle.fx_check.specs.declared.fault.StaticFault.{StaticFault}
 use Rattle.fx_check.specs.declared.fault.StaticFault.TheVariants.{UnknownName, NameTwice, OutOfRange, NotUniform, Misplaced, GroupDiffers, MemberDiffers, SubsetOutside, TooMuchWork}
 use Rattle.fx_check.specs.Acceptance.{Line, Refused, IsAccepted, decl_lines, callbacks_lines, stmts_lines, event_lines, head_lines, lines_of, fault_of, first_or, first_refused, work_refused, refusal_of}
-use Rattle.fx_check.specs.Facts.{facts_of}
+use Rattle.fx_check.specs.Facts.{facts_of, or_first}
 use Rattle.fx_check.specs.Parts.{KeepsRules, KeepRules, KeepsByParts, reasons, gives, IsFirstRefused, IsTooMuch, IsRefusal}
 use Rattle.fx_check.specs.Rules.{body_place, is_between, procs_of}
 use Rattle.fx_check.specs.Work.{work_of}
-use Rattle.fx_check.proofs.Accepting.{keeps, all_keep, joined}
+use Rattle.fx_check.proofs.Accepting.{keeps, all_keep, joined, none_refused}
+use Rattle.fx_check.proofs.Walks.{refused_append}
 
 -- ---- parts
 
@@ -108,3 +110,23 @@ refusal_by job r None is e = inr (much_by job r (nat_lt 20000 (work_of job.body)
 
 pub is_refusal : (job : Job) (r : Refused) → refusal_of job ≡ Some r → IsRefusal job r
 is_refusal job r e = refusal_by job r (first_refused (lines_of job)) refl e
+
+-- ---- and back
+
+refused_behind : (front rest : List Line) → KeepRules front → first_refused (front ++ rest) ≡ first_refused rest
+refused_behind front rest kept = refused_append front rest ∙ ap (λ (o : Option Refused). or_first o (first_refused rest)) (none_refused front kept)
+
+first_told : (ls : List Line) (r : Refused) → IsFirstRefused ls r → first_refused ls ≡ Some r
+first_told ls r f =
+    ap first_refused f.are ∙ refused_behind f.front (f.line ∷ f.behind) f.kept
+    ∙ ap (λ (o : Option StaticFault). first_or f.line.spot o (first_refused f.behind)) (least_reason f.line ∙ f.fault)
+    ∙ ap (λ (spot : Spot). Some (record { fault = r.fault; spot = spot })) f.spot
+
+much_told : (job : Job) (r : Refused) → IsTooMuch job r → work_refused job None ≡ Some r
+much_told job r m = rw (lt-ltb 20000 (work_of job.body) m.much) (ap Some (sym m.is))
+
+pub is_told : (job : Job) (r : Refused) → IsRefusal job r → refusal_of job ≡ Some r
+is_told job r is = elim is [
+  | inl f ↦ ap (work_refused job) (first_told (lines_of job) r f)
+  | inr m ↦ ap (work_refused job) (none_refused (lines_of job) m.kept) ∙ much_told job r m
+]

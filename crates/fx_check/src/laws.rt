@@ -10,8 +10,8 @@ pub fn accepted_where_not_refused()
     ensures { (job : Job) → IsAccepted job ↔ (refusal_of job ≡ None) }
 {}
 
-/// A refusal is that of the first line that breaks a rule, for the first of the reasons that it gives; or, where no
-/// line breaks one, of too much work, at the line `begin`.
+/// A job is refused exactly at the first line that breaks a rule, for the first of the reasons that it gives; or, where
+/// no line breaks one, exactly for too much work, at the line `begin`.
 pub fn the_first_line_and_reason_are_told()
-    ensures { (job : Job) (refused : Refused) → refusal_of job ≡ Some refused → IsRefusal job refused }
+    ensures { (job : Job) (refused : Refused) → (refusal_of job ≡ Some refused) ↔ IsRefusal job refused }
 {}
