@@ -49,24 +49,21 @@ pub fn is_known(job: &Job, tables: &Tables, statement: &Stmt) -> bool
         Stmt::Loop { counter, first, .. } => {
             is_counter(names, counter.as_slice()) && expr_known(job, tables, first)
         }
-        Stmt::Reduce { counter, array, .. } => {
-            is_counter(names, counter.as_slice()) && is_array(names, array.as_slice())
-        }
-        Stmt::Agree { counter, array, .. } => {
+        Stmt::Reduce { counter, array, .. } | Stmt::Agree { counter, array, .. } => {
             is_counter(names, counter.as_slice()) && is_array(names, array.as_slice())
         }
         Stmt::Shift { source, target, .. } => {
             is_array(names, source.as_slice()) && is_array(names, target.as_slice())
         }
-        Stmt::Group { group, .. } => has_group(job, tables, *group),
+        Stmt::Group { group, .. }
+        | Stmt::Commit { group, .. }
+        | Stmt::CommitBarrier { group, .. } => has_group(job, tables, *group),
         Stmt::Member { group, array, .. } => {
             has_group(job, tables, *group) && is_array(names, array.as_slice())
         }
         Stmt::Store { group, member, .. } => {
             has_group(job, tables, *group) && has_member(job, tables, *group, *member)
         }
-        Stmt::Commit { group, .. } => has_group(job, tables, *group),
-        Stmt::CommitBarrier { group, .. } => has_group(job, tables, *group),
         Stmt::Restore {
             group,
             member,
@@ -131,8 +128,7 @@ pub fn is_in_range(job: &Job, statement: &Stmt) -> bool
             subset,
             ..
         } => is_eighth(*group) && is_eighth(*member) && picked_fits_32(subset),
-        Stmt::Commit { group, .. } => is_eighth(*group),
-        Stmt::CommitBarrier { group, .. } => is_eighth(*group),
+        Stmt::Commit { group, .. } | Stmt::CommitBarrier { group, .. } => is_eighth(*group),
         Stmt::Restore {
             group,
             member,
