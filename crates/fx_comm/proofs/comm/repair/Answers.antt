@@ -40,5 +40,5 @@ invariant_of-result c =
     let gone : drop c.loop-seat.seat-index items ≡ [] = drop_of_length-le items c.loop-seat-test.false in
     let all : c.loop-seat.seats ++ [] ≡ repaired items (set.contains c.args.present) = rw gone at c.loop-seat.invariant in
     let done : c.loop-seat.seats ≡ repaired items (set.contains c.args.present) = sym (append-nil c.loop-seat.seats) ∙ all in
-    let some : 0 < length (members_of c.args.present) = rw (length_members c.args.present c.count.ensures.below) c.requires in
+    let some : 0 < length (members_of c.args.present) = rw (length_members c.args.present c.spares_of-spares.ensures.below) c.requires in
     rw (done, c.as_slice-seat-items.ensures) (repaired_comm (set.contains c.args.present) c.old.inside.seats c.old.invariant some)
