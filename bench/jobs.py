@@ -1,9 +1,11 @@
-"""Makes the jobs that measure.sh runs, in the folder that is given."""
+"""Makes the jobs that measure.sh runs, in the folder that is given: NAME.job, and NAME.status with its exit status."""
 import os
 import sys
 
 LONGEST_JOB = 1_048_576
 LONGEST_LINE = 1_024
+MOST_WORK = 20_000
+DONE, REFUSED = 0, 3
 HEAD = "fenix 1\nranks {}\nspares 0\nseparation 1\narray a {}\nbegin\n"
 TAIL = "end\nschedule\nstop\n"
 
@@ -24,11 +26,17 @@ def padded(line):
     return words[0] + " " * (LONGEST_LINE - len(line) + 1) + words[1] + "\n"
 
 
+def checked(text):
+    """The status of a job that keeps all other rules and has no loop: it is refused where its work is too much."""
+    body = text.split("\nbegin\n")[1].split("\nend\n")[0].split("\n")
+    return REFUSED if sum(line != "endif" for line in body) > MOST_WORK else DONE
+
+
 def jobs():
     # What is run: the journal of a print of 256 zeros has 525 bytes.
-    yield "prints_2000", job(1, 256, "print a\n" * 2_000)
-    yield "prints_20000", job(1, 256, "print a\n" * 20_000)
-    yield "source_1mb", job(1, 1, ("print" + " " * 45 + "a\n") * 20_000)
+    yield "prints_2000", job(1, 256, "print a\n" * 2_000), DONE
+    yield "prints_20000", job(1, 256, "print a\n" * 20_000), DONE
+    yield "source_1mb", job(1, 1, ("print" + " " * 45 + "a\n") * 20_000), DONE
 
     # What is read alone: 17 ranks are refused at the second line.
     opened, closed = "when initial\n" * 64, "endwhen\n" * 64
@@ -45,7 +53,7 @@ def jobs():
     }
     for name, (piece, before, behind) in kinds.items():
         for label, size in (("100kb", 102_400), ("1mb", LONGEST_JOB)):
-            yield f"read_{name}_{label}", filled(size, HEAD.format(17, 1) + before, piece, behind + TAIL)
+            yield f"read_{name}_{label}", filled(size, HEAD.format(17, 1) + before, piece, behind + TAIL), REFUSED
 
     # What is checked to its end.
     names = "".join(f"array a{k} 256\n" for k in range(8)) + "".join(f"counter c{k}\n" for k in range(16))
@@ -65,20 +73,22 @@ def jobs():
     }
     for name, piece in kinds.items():
         for label, size in (("100kb", 102_400), ("1mb", LONGEST_JOB)):
-            yield f"check_{name}_{label}", filled(size, start, piece, TAIL)
+            text = filled(size, start, piece, TAIL)
+            yield f"check_{name}_{label}", text, checked(text)
     # An unknown group in front of all that could create it.
     for label, size in (("100kb", 102_400), ("1mb", LONGEST_JOB)):
-        yield f"check_unknown_{label}", filled(size, start + "commit 9\n", "group 8 0 0\n", TAIL)
-    yield "check_events_700kb", start + "end\nschedule\n" + "step 0\n" * 100_000 + "stop\n"
-    yield "check_wide_prints_1mb", job(1, 1, ("print" + " " * 45 + "a\n") * 20_000)
+        yield f"check_unknown_{label}", filled(size, start + "commit 9\n", "group 8 0 0\n", TAIL), REFUSED
+    yield "check_events_700kb", start + "end\nschedule\n" + "step 0\n" * 100_000 + "stop\n", DONE
+    yield "check_wide_prints_1mb", job(1, 1, ("print" + " " * 45 + "a\n") * 20_000), DONE
 
 
 def main():
-    for name, text in jobs():
+    for name, text, status in jobs():
         assert len(text) <= LONGEST_JOB, name
         assert all(len(line) <= LONGEST_LINE for line in text.splitlines()), name
-        with open(os.path.join(sys.argv[1], name + ".job"), "w", encoding="ascii") as file:
-            file.write(text)
+        for ending, content in ((".job", text), (".status", f"{status}\n")):
+            with open(os.path.join(sys.argv[1], name + ending), "w", encoding="ascii") as file:
+                file.write(content)
 
 
 main()

@@ -1,35 +1,52 @@
 #!/bin/bash
 # Counts the instructions of the program for each job of jobs.py, and prints them by byte read and written.
-# Takes the program's path; without one, the program that ./fenix builds.
+# Takes the program's path; without one, the proved program of these sources, which .ci/run leaves.
+# Ends with 1, and says so, where the program doesn't answer as it should.
 here=$(cd "$(dirname "$0")" && pwd) || exit 1
-program=${1:-$here/../crates/fenix/out/fenix}
-if [ ! -x "$program" ]; then
-    "$here/../fenix" run < "$here/../examples/two_prints.job" > /dev/null || exit 1
-fi
-if ! command -v valgrind > /dev/null; then
-    echo "valgrind is missing: apt-get install -y valgrind" >&2
-    exit 1
-fi
-jobs=$(mktemp -d) || exit 1
-trap 'rm -rf "$jobs"' EXIT
-python3 "$here/jobs.py" "$jobs" || exit 1
 
-# The instructions of one run, and the bytes that it wrote into $jobs/out.
-instructions() {
-    valgrind --tool=callgrind --callgrind-out-file=/dev/null "$program" "$@" > "$jobs/out" 2> "$jobs/log"
-    sed -n 's/^.*Collected *: *\([0-9]*\).*$/\1/p' "$jobs/log"
+stop() {
+    echo "measure.sh: $1" >&2
+    exit 1
 }
 
-echo "start alone: $(instructions < /dev/null) instructions"
+if [ $# -gt 0 ]; then
+    [ $# = 1 ] && [ -f "$1" ] && [ -x "$1" ] || stop "it takes one word at most, the path of a program"
+    program=$(readlink -f "$1") || stop "$1 isn't found"
+else
+    program=$("$here/../.ci/program-path") || stop "the sources can't be read"
+    [ -x "$program" ] || stop "these sources have no proved program yet: .ci/run makes one"
+fi
+[ "$("$program" < /dev/null)" = "fenix: bad words" ] || stop "$program isn't fenix"
+command -v valgrind > /dev/null || stop "valgrind is missing: apt-get install -y valgrind"
+jobs=$(mktemp -d) || exit 1
+trap 'rm -rf "$jobs"' EXIT
+python3 "$here/jobs.py" "$jobs" || stop "the jobs can't be made"
+
+# Counts one run, which must end with the status $1: the instructions go to $count, what it wrote to $jobs/out.
+measure() {
+    local wanted=$1 status
+    shift
+    valgrind --tool=callgrind --callgrind-out-file=/dev/null "$program" "$@" > "$jobs/out" 2> "$jobs/log"
+    status=$?
+    count=$(sed -n 's/^.*Collected *: *\([0-9][0-9]*\).*$/\1/p' "$jobs/log")
+    [ "$status" = "$wanted" ] && [ -n "$count" ] || {
+        cat "$jobs/log" >&2
+        stop "a run ended with $status, and not with $wanted, or wasn't counted"
+    }
+}
+
+measure 2 < /dev/null
+echo "start alone: $count instructions"
 printf '%-38s %9s %10s %13s %8s\n' job read written instructions 'per byte'
 for file in "$jobs"/*.job; do
-    case $file in
-    */check_*) mode=check ;;
+    name=$(basename "$file" .job)
+    case $name in
+    check_*) mode=check ;;
     *) mode=run ;;
     esac
-    count=$(instructions "$mode" < "$file")
+    measure "$(cat "$jobs/$name.status")" "$mode" < "$file"
     read=$(stat -c %s "$file")
     written=$(stat -c %s "$jobs/out")
-    awk -v name="$(basename "$file" .job)" -v read="$read" -v written="$written" -v count="$count" \
+    awk -v name="$name" -v read="$read" -v written="$written" -v count="$count" \
         'BEGIN { printf "%-38s %9d %10d %13d %8.1f\n", name, read, written, count, count / (read + written) }'
 done

@@ -28,3 +28,6 @@ fn ended(rt: &HostRuntime, words: &[String]) -> u8 {
     let mut sink = StdSink::new(io::writer(rt));
     code(&fx_cli::fenix(rt.alloc(), words, &mut source, &mut sink))
 }
+
+#[cfg(test)]
+mod tests;
