@@ -4,9 +4,8 @@ use Rattle.std.specs.Prelude.{nat_lt}
 use Rattle.std.proofs.lemmas.Bool.Decides.{nat_tests}
 use Rattle.std.proofs.lemmas.Bool.{cond_both}
 use Rattle.fx_link.specs.declared.slot.Slot.{Slot}
-use Rattle.fx_ballot.specs.declared.heard.Heard.{Heard}
 use Rattle.fx_ballot.specs.Turn.{Phase, Outside, Voting, Round, Decided, Message, Estimate, Turn, turn, form, speak, follow, decide, slots_of}
-use Rattle.fx_ballot.specs.World.{Member, World, put, stays, Apart, own_after, sent_by, told_all, among, acts}
+use Rattle.fx_ballot.specs.World.{Member, World, stays, Apart, told_all, among, acts}
 use Rattle.fx_ballot.specs.Laws.{estimate_of, held, TrueSlots}
 use Rattle.fx_ballot.proofs.Grows.{goes, says, grows_go, grows_say}
 use Rattle.fx_ballot.proofs.Messages.{Messages, messages_go, messages_say}

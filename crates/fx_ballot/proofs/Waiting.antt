@@ -5,14 +5,12 @@ use Rattle.std.proofs.lemmas.Bool.Decides.{nat_tests}
 use Rattle.std.proofs.lemmas.Bool.{cond_both, cases_eq, cases_Bool}
 use Rattle.fx_link.specs.declared.slot.Slot.{Slot}
 use Rattle.fx_ballot.specs.declared.heard.Heard.{Heard}
-use Rattle.fx_ballot.specs.declared.poll.Poll.{Poll}
 use Rattle.fx_ballot.specs.declared.poll.Poll.TheVariants as poll
 use Rattle.fx_ballot.specs.Turn.{Phase, Outside, Voting, Round, Decided, Message, Turn, turn, form, speak, follow, decide, slots_of, slot_of, with_slot}
-use Rattle.fx_ballot.specs.World.{Member, World, stays, is_outside, Apart, among, turn_of}
-use Rattle.fx_ballot.specs.Laws.{vote_of, estimate_of, past, AllEntered, Attentive, Unblocked, ClearLinksEnable}
+use Rattle.fx_ballot.specs.World.{Member, World, stays, is_outside, Apart}
+use Rattle.fx_ballot.specs.Laws.{vote_of, estimate_of, past, AllEntered, Attentive, ClearLinksEnable}
 use Rattle.fx_ballot.proofs.Messages.{Knows}
 use Rattle.fx_ballot.proofs.Trails.{Trail, hear_all}
-use Rattle.fx_ballot.proofs.Turns.{Sound}
 use Rattle.fx_ballot.proofs.Strangers.{among_seat}
 use Rattle.fx_ballot.proofs.Runs.{Kept}
 

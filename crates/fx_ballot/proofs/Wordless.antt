@@ -1,10 +1,10 @@
 -- A process that cast no vote and said no estimate, also one that left: of it nothing is under way but leavings.
-use Rattle.std.proofs.Common.{◌≡◌, ℕ, ◌<◌, ◌≢◌, ◌==◌, Bool, true, false, ◌&&◌, List, [], ◌∷◌, Option, Some, None, inl, inr, arith, refl, subst, sym, ◌∙◌, ap}
+use Rattle.std.proofs.Common.{◌≡◌, ℕ, ◌<◌, ◌≢◌, Bool, true, false, ◌&&◌, List, [], ◌∷◌, Option, Some, None, arith, refl, subst, sym, ◌∙◌, ap}
 use Rattle.std.specs.Prelude.{nat_lt}
 use Rattle.std.proofs.lemmas.Bool.Decides.{nat_tests}
 use Rattle.std.proofs.lemmas.Bool.{cond_both}
 use Rattle.fx_link.specs.declared.slot.Slot.{Slot}
-use Rattle.fx_ballot.specs.Turn.{Outside, Message, Vote, Estimate, Leaving, Turn}
+use Rattle.fx_ballot.specs.Turn.{Message, Vote, Estimate, Leaving, Turn}
 use Rattle.fx_ballot.specs.World.{World, Move, Enter, Act, Hear, Leave, Kill, Tell, start, stays, is_outside, may_leave, Apart, put_link, among, enters, hears, leaves, kills, tells, acts, turn_of, enabled, happens, run}
 use Rattle.fx_ballot.specs.Laws.{vote_of, estimate_of, Wordless, OnlyLeavings, OnlyLeft, StrangersOnlyLeave}
 use Rattle.fx_ballot.proofs.Lists.{Each}

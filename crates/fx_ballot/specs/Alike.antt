@@ -2,7 +2,7 @@
 use Rattle.std.specs.Prelude.{◌≡◌, ◌≢◌, ◌<◌, ℕ, false}
 use Rattle.fx_link.specs.declared.slot.Slot.{Slot}
 use Rattle.fx_ballot.specs.declared.poll.Poll.TheVariants as poll
-use Rattle.fx_ballot.specs.Turn.{Phase, Message, Turn}
+use Rattle.fx_ballot.specs.Turn.{Message}
 use Rattle.fx_ballot.specs.World.{Member, among, after, told, entered, acted, turn_of}
 use Rattle.fx_ballot.specs.Seats.{Seated, seat_turn, polled}
 

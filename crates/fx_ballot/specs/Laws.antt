@@ -3,7 +3,7 @@ use Rattle.std.specs.Prelude.{◌≡◌, ◌≢◌, ◌⊎◌, ◌<◌, ℕ, Boo
 use Rattle.fx_link.specs.declared.slot.Slot.{Slot}
 use Rattle.fx_link.specs.declared.slot.Slot.TheVariants.{Lost, Left}
 use Rattle.fx_ballot.specs.declared.poll.Poll.TheVariants as poll
-use Rattle.fx_ballot.specs.Turn.{Phase, Outside, Voting, Round, Decided, Message, Vote, Estimate, Leaving, Turn}
+use Rattle.fx_ballot.specs.Turn.{Phase, Outside, Voting, Round, Decided, Message, Vote, Estimate, Leaving}
 use Rattle.fx_ballot.specs.World.{World, stays, is_outside, among, turn_of, leaves, Move, Enter, Act, Hear, Leave, Kill, Tell, enabled, happens, run, start}
 
 -- the vote that a process cast, where it entered

@@ -1,5 +1,5 @@
 -- Worked rows, in a world of two members: what each move changes, and that one that isn't enabled changes nothing.
-use Rattle.std.specs.Prelude.{◌≡◌, ℕ, Bool, true, false, List, [], ◌∷◌, ◌++◌, Option, Some, None, refl}
+use Rattle.std.specs.Prelude.{◌≡◌, Bool, true, false, List, [], ◌∷◌, ◌++◌, Some, None, refl}
 use Rattle.fx_link.specs.declared.slot.Slot.{Slot}
 use Rattle.fx_link.specs.declared.slot.Slot.TheVariants.{Yes, Lost, Final}
 use Rattle.fx_ballot.specs.declared.heard.Heard.{Heard}
