@@ -1,10 +1,18 @@
 -- What a repair does to the seats of a communicator.
-use Rattle.std.proofs.Common.{◌≡◌, ℕ, ◌+◌, ◌<◌, ◌≤◌, min, Bool, true, false, cond, not, ◌&&◌, ◌||◌, ◌==◌, inl, inr, List, [], ◌∷◌, ◌++◌, length, refl, sym, ap, ◌∙◌, arith, true≢false}
+use Rattle.std.proofs.Common.{◌≡◌, ℕ, ◌+◌, ◌<◌, ◌≤◌, suc, min, Bool, true, false, cond, not, ◌&&◌, ◌||◌, ◌==◌, inl, inr, List, [], ◌∷◌, ◌++◌, length, refl, sym, ap, ◌∙◌, arith, true≢false}
 use Rattle.std.proofs.lemmas.Bool.{eq-eqb, ne_eqb, eqb-true}
 use Rattle.fx_base.specs.declared.names.Ident.{Ident}
 use Rattle.fx_base.specs.Sets.{those_below}
-use Rattle.fx_comm.specs.Seats.{Seat, has_place, spares_of, filled, refilled, spares_left, repaired, RiseAbove, IdentsRise, NoTwoPlaces, AllBelow32, AllPresent, IsSeated, IsComm}
+use Rattle.fx_comm.specs.Seats.{Seat, has_place, has_ident, idents_of, spares_of, filled, refilled, spares_left, repaired, RiseAbove, IdentsRise, NoTwoPlaces, AllBelow32, AllPresent, IsSeated, IsComm}
 use Rattle.fx_comm.proofs.Lists.{tells, is_in, IsApart, first_false, second_false, not_true, fails_those, those_apart, those_same, those_none, count_parts, count_one, AllUnder, those_under}
+
+or_later : (a b : Bool) → b ≡ true → (a || b) ≡ true
+or_later true b e = refl
+or_later false b e = e
+
+same_or_later : (a b c : Bool) → (b ≡ true → c ≡ true) → (a || b) ≡ true → (a || c) ≡ true
+same_or_later true b c f e = refl
+same_or_later false b c f e = f e
 
 module _ (present : ℕ → Bool) where
   -- ---- with all members present nothing changes
@@ -195,6 +203,45 @@ module _ (present : ℕ → Bool) where
   repaired_length old apart below =
       filled_length old (spares_of old present)
       ∙ ap (min (length old)) (sym (count_parts present (has_place old) 32 ∙ ap (λ n. n + length (spares_of old present)) (placed_stay old apart below)))
+
+  -- ---- no identity is new
+
+  ident_among : (seats : List Seat) (spares : List ℕ) (ident : ℕ) → has_ident (filled present seats spares) ident ≡ true → has_ident seats ident ≡ true
+  ident_among [] spares ident has = has
+  ident_among (s ∷ seats) [] ident has = elim (tells (present s.1.0)) [
+    | inl e ↦ same_or_later (s.0.0 == ident) _ _ (ident_among seats [] ident) (rw e at has)
+    | inr e ↦ or_later (s.0.0 == ident) _ (ident_among seats [] ident (rw e at has))
+  ]
+  ident_among (s ∷ seats) (spare ∷ spares) ident has = elim (tells (present s.1.0)) [
+    | inl e ↦ same_or_later (s.0.0 == ident) _ _ (ident_among seats (spare ∷ spares) ident) (rw e at has)
+    | inr e ↦ same_or_later (s.0.0 == ident) _ _ (ident_among seats spares ident) (rw e at has)
+  ]
+
+  pub repaired_among : (old : List Seat) (ident : ℕ) → has_ident (repaired old present) ident ≡ true → has_ident old ident ≡ true
+  repaired_among old ident = ident_among old (spares_of old present) ident
+
+  -- of as many identities none was dropped
+  same_idents : (seats : List Seat) (spares : List ℕ) → length (filled present seats spares) ≡ length seats → idents_of (filled present seats spares) ≡ idents_of seats
+  same_idents [] spares size = refl
+  same_idents (s ∷ seats) [] size = elim (tells (present s.1.0)) [
+    | inl e ↦
+        let as_many : suc (length (filled present seats [])) ≡ suc (length seats) = rw e at size in
+        rw e (ap (λ rest. s.0.0 ∷ rest) (same_idents seats [] (omega arith)))
+    | inr e ↦
+        let fewer : length (filled present seats []) ≡ suc (length seats) = rw e at size in
+        absurd (omega (arith, filled_length seats []))
+  ]
+  same_idents (s ∷ seats) (spare ∷ spares) size = elim (tells (present s.1.0)) [
+    | inl e ↦
+        let as_many : suc (length (filled present seats (spare ∷ spares))) ≡ suc (length seats) = rw e at size in
+        rw e (ap (λ rest. s.0.0 ∷ rest) (same_idents seats (spare ∷ spares) (omega arith)))
+    | inr e ↦
+        let as_many : suc (length (filled present seats spares)) ≡ suc (length seats) = rw e at size in
+        rw e (ap (λ rest. s.0.0 ∷ rest) (same_idents seats spares (omega arith)))
+  ]
+
+  pub repaired_idents : (old : List Seat) → length (repaired old present) ≡ length old → idents_of (repaired old present) ≡ idents_of old
+  repaired_idents old = same_idents old (spares_of old present)
 
   -- ---- identities and processes stay below 32
 

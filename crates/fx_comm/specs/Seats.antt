@@ -34,6 +34,16 @@ abbrev pub place_in : List Seat → ℕ → Option ℕ
 place_in [] proc = None
 place_in (s ∷ seats) proc = cond (s.1.0 == proc) (Some 0) (option_map (λ place. place + 1) (place_in seats proc))
 
+-- whether an identity is somebody's
+abbrev pub has_ident : List Seat → ℕ → Bool
+has_ident [] ident = false
+has_ident (s ∷ seats) ident = (s.0.0 == ident) || has_ident seats ident
+
+-- the identities, in order of places
+abbrev pub idents_of : List Seat → List ℕ
+idents_of [] = []
+idents_of (s ∷ seats) = s.0.0 ∷ idents_of seats
+
 -- the present processes that have no place, in rising order
 abbrev pub spares_of : List Seat → (ℕ → Bool) → List ℕ
 spares_of old is_present = those_below (λ proc. is_present proc && not (has_place old proc)) 32
@@ -57,6 +67,15 @@ filled is_present (s ∷ seats) spares =
 -- the communicator after a repair
 abbrev pub repaired : List Seat → (ℕ → Bool) → List Seat
 repaired old is_present = filled is_present old (spares_of old is_present)
+
+-- the communicator after so many repairs, by those who were present at each
+abbrev pub after_repairs : List Seat → (ℕ → ℕ → Bool) → ℕ → List Seat
+after_repairs first present zero = first
+after_repairs first present (suc n) = repaired (after_repairs first present n) (present n)
+
+-- who is present at a repair was present at the one before
+abbrev pub NobodyComesBack : (ℕ → ℕ → Bool) → Type 0
+NobodyComesBack present = (n proc : ℕ) → present (n + 1) proc ≡ true → present n proc ≡ true
 
 -- the identities rise, and each is above the bound
 abbrev pub RiseAbove : ℕ → List Seat → Type 0
@@ -96,24 +115,45 @@ pub record IsComm (seats : List Seat) : Type 0 where
   pub apart : NoTwoPlaces seats
   pub below : AllBelow32 seats
 
--- four ranks, of which 1 and 2 are lost, and one spare
+-- four ranks, of which 1 and 2 are lost
 
 abbrev four : List Seat
 four = seat 0 0 ∷ seat 1 1 ∷ seat 2 2 ∷ seat 3 3 ∷ []
-
-abbrev after : List Seat
-after = seat 0 0 ∷ seat 1 4 ∷ seat 3 3 ∷ []
 
 first_four : first_seats 4 ≡ four
 unfolding seats_from
 first_four = refl
 
-after_repair : repaired four (λ proc. (proc == 0) || ((proc == 3) || (proc == 4))) ≡ after
-unfolding those_below
-after_repair = refl
+-- with one spare
 
-place_of_3 : place_in after 3 ≡ Some 2
+abbrev with_one_spare : List Seat
+with_one_spare = seat 0 0 ∷ seat 1 4 ∷ seat 3 3 ∷ []
+
+one_spare : repaired four (λ proc. (proc == 0) || ((proc == 3) || (proc == 4))) ≡ with_one_spare
+unfolding those_below
+one_spare = refl
+
+place_of_3 : place_in with_one_spare 3 ≡ Some 2
 place_of_3 = refl
 
-no_place_of_2 : place_in after 2 ≡ None
+no_place_of_2 : place_in with_one_spare 2 ≡ None
 no_place_of_2 = refl
+
+-- with two spares: the lesser lost identity goes to the lesser spare
+
+abbrev with_two_spares : List Seat
+with_two_spares = seat 0 0 ∷ seat 1 4 ∷ seat 2 5 ∷ seat 3 3 ∷ []
+
+two_spares : repaired four (λ proc. (proc == 0) || ((proc == 3) || ((proc == 4) || (proc == 5)))) ≡ with_two_spares
+unfolding those_below
+two_spares = refl
+
+-- then 4 is lost too: 5 keeps its identity, at another place
+
+abbrev there : ℕ → ℕ → Bool
+there zero proc = (proc == 0) || ((proc == 3) || ((proc == 4) || (proc == 5)))
+there (suc n) proc = (proc == 0) || ((proc == 3) || (proc == 5))
+
+two_repairs : after_repairs four there 2 ≡ seat 0 0 ∷ seat 2 5 ∷ seat 3 3 ∷ []
+unfolding those_below
+two_repairs = refl

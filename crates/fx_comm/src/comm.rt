@@ -1,4 +1,4 @@
-ghost use Rattle.std.specs.Prelude.{◌≡◌, ◌<◌, ◌≤◌, ◌&&◌, ℕ, Some, IfOk, length, not, slice_get, nat_lt};
+ghost use Rattle.std.specs.Prelude.{◌≡◌, ◌<◌, ◌≤◌, ◌&&◌, ℕ, Some, IfOk, IfSome, length, not, slice_get, nat_lt};
 ghost use Rattle.std.specs.Option.{option_map};
 ghost use Rattle.std.specs.FinSet as set;
 ghost use Rattle.fx_comm.specs.Seats.{IsComm, AllBelow32, first_seats, repaired, has_place, place_in};
@@ -68,9 +68,18 @@ impl Comm {
         self.seats.len() as u8
     }
 
-    /// The place of the process, if it has one.
+    /// The seats in order of places: each identity, with the process that has it.
+    pub fn seats(&self) -> &Seats
+        ensures { result.now ≡ self.now }
+    {
+        &self.seats
+    }
+
+    /// The place of the process, if it has one. It is below the size, and the process is the one there.
     pub fn place_of(&self, proc: Proc) -> Option<Place>
-        ensures { option_map (λ place. place.0) result ≡ place_in self.now proc.0 }
+        ensures place { option_map (λ place. place.0) result ≡ place_in self.now proc.0 }
+        ensures below { IfSome result (λ place. place.0 < length self.now) }
+        ensures there { IfSome result (λ place. option_map (λ seat. seat.1) (slice_get self.now place.0) ≡ Some proc) }
     {
         let mut place = 0;
         for seat in self.seats.as_slice() {
@@ -82,10 +91,11 @@ impl Comm {
         None
     }
 
-    /// The process at a place below the size.
+    /// The process at a place below the size. The place of that process is this one.
     pub fn proc_at(&self, place: Place) -> Proc
         requires { place.0 < length self.now }
-        ensures { option_map (λ seat. seat.1) (slice_get self.now place.0) ≡ Some result }
+        ensures there { option_map (λ seat. seat.1) (slice_get self.now place.0) ≡ Some result }
+        ensures place { place_in self.now result.0 ≡ Some place.0 }
     {
         self.seats.as_slice()[usize::from(place.0)].1
     }

@@ -1,9 +1,9 @@
 -- What the definitions of the links say of one link.
-use Rattle.std.proofs.Common.{◌≡◌, ℕ, ◌<◌, Bool, true, false, cond, List, [], ◌∷◌, ◌++◌, length, replicate, slice_set, slice_index_or, inl, inr, sym, ap, ◌∙◌, arith}
-use Rattle.std.proofs.lemmas.List.{length-set, get_or-replicate, get_or-set_same, get_or-set_other, length-replicate}
+use Rattle.std.proofs.Common.{◌≡◌, ℕ, ◌<◌, Bool, true, false, cond, List, [], ◌∷◌, ◌++◌, length, replicate, slice_set, slice_index_or, inl, inr, refl, sym, ap, ◌∙◌, arith}
+use Rattle.std.proofs.lemmas.List.{length-set, get_or-replicate, get_or_past, get_or-set_same, get_or-set_other, length-replicate}
 use Rattle.std.proofs.lemmas.List.Elements.{All-set}
 use Rattle.std.proofs.Math.ListN.{get_or-map}
-use Rattle.std.proofs.lemmas.Bool.{cases_eq}
+use Rattle.std.proofs.lemmas.Bool.{cases_eq, cases_lt}
 use Rattle.fx_link.specs.declared.message.Message.{Message}
 use Rattle.fx_link.specs.LinkTable.{LinkTable, IsTable, procs_of, link_of, is_closed, with_link, no_links, sent, closed_to}
 
@@ -58,11 +58,35 @@ module _ (links : LinkTable) (table : IsTable links) (from to : ℕ) (from_withi
   pub closed_elsewhere : (a b : ℕ) → (b ≡ to → ⊥) → link_of (closed_to links to) a b ≡ link_of links a b
   closed_elsewhere a b apart = rw (emptied_row a) (get_or-set_other (slice_index_or links.rows a []) to b [] [] apart)
 
-  pub is_closed_here : is_closed (closed_to links to) to ≡ true
-  is_closed_here = get_or-set_same links.closed to true false to_within
+-- ---- who is closed
 
-  pub is_closed_elsewhere : (b : ℕ) → (b ≡ to → ⊥) → is_closed (closed_to links to) b ≡ is_closed links b
-  is_closed_elsewhere b apart = get_or-set_other links.closed to b true false apart
+pub closed_itself : (links : LinkTable) (to : ℕ) → to < procs_of links → is_closed (closed_to links to) to ≡ true
+closed_itself links to within = get_or-set_same links.closed to true false within
+
+pub closed_other : (links : LinkTable) (to who : ℕ) → (who ≡ to → ⊥) → is_closed (closed_to links to) who ≡ is_closed links who
+closed_other links to who apart = get_or-set_other links.closed to who true false apart
+
+pub sent_closed : (links : LinkTable) (from to : ℕ) (message : Message) (who : ℕ) → is_closed (sent links from to message) who ≡ is_closed links who
+sent_closed links from to message who = go (is_closed links to)
+  where
+    go : (b : Bool) → is_closed (cond b links (with_link links from to (link_of links from to ++ message ∷ []))) who ≡ is_closed links who
+    go true = refl
+    go false = refl
+
+pub none_closed : (procs who : ℕ) → is_closed (no_links procs) who ≡ false
+none_closed procs who = elim (cases_lt who procs) [
+  | inl within ↦ get_or-replicate procs who false false within
+  | inr past ↦ get_or_past (replicate procs false) who false (omega (arith, length-replicate procs false))
+]
+
+pub sent_processes : (links : LinkTable) (from to : ℕ) (message : Message) → procs_of (sent links from to message) ≡ procs_of links
+sent_processes links from to message = go (is_closed links to)
+  where
+    go : (b : Bool) → procs_of (cond b links (with_link links from to (link_of links from to ++ message ∷ []))) ≡ procs_of links
+    go true = refl
+    go false = refl
+
+-- ---- at first
 
 pub no_links_table : (procs : ℕ) → IsTable (no_links procs)
 no_links_table procs = (

@@ -1,5 +1,5 @@
 //! What follows from the definitions of the links. The functions do nothing: their contracts are theorems.
-ghost use Rattle.std.specs.Prelude.{◌≡◌, ◌<◌, ◌++◌, ◌∷◌, [], ℕ, false};
+ghost use Rattle.std.specs.Prelude.{◌≡◌, ◌<◌, ◌++◌, ◌∷◌, [], ℕ, true, false};
 ghost use Rattle.fx_link.specs.LinkTable.{LinkTable, IsTable, procs_of, link_of, is_closed, no_links, sent, taken, rest_of, emptied, closed_to};
 ghost use Rattle.fx_link.specs.declared.message.Message.{Message};
 
@@ -27,6 +27,31 @@ pub fn nothing_goes_to_a_closed_process()
     ensures closed { (links : LinkTable) (from to : ℕ) → IsTable links → from < procs_of links → to < procs_of links → link_of (closed_to links to) from to ≡ [] }
     ensures later { (links : LinkTable) (from to : ℕ) (message : Message) → IsTable links → from < procs_of links → to < procs_of links → link_of (sent (closed_to links to) from to message) from to ≡ [] }
     ensures others { (links : LinkTable) (from to a b : ℕ) → IsTable links → from < procs_of links → to < procs_of links → (b ≡ to → ⊥) → link_of (closed_to links to) a b ≡ link_of links a b }
+{}
+
+/// A send to a closed process changes nothing.
+pub fn a_send_to_a_closed_process_vanishes()
+    ensures { (links : LinkTable) (from to : ℕ) (message : Message) → is_closed links to ≡ true → sent links from to message ≡ links }
+{}
+
+/// At first nobody is closed, and a process is closed by being closed alone: no send, no message that is
+/// taken, no link that is emptied and no closing of another process changes that.
+pub fn only_closing_closes()
+    ensures new { (procs who : ℕ) → is_closed (no_links procs) who ≡ false }
+    ensures closed { (links : LinkTable) (to : ℕ) → to < procs_of links → is_closed (closed_to links to) to ≡ true }
+    ensures others { (links : LinkTable) (to who : ℕ) → (who ≡ to → ⊥) → is_closed (closed_to links to) who ≡ is_closed links who }
+    ensures sent { (links : LinkTable) (from to : ℕ) (message : Message) (who : ℕ) → is_closed (sent links from to message) who ≡ is_closed links who }
+    ensures taken { (links : LinkTable) (from to who : ℕ) → is_closed (taken links from to) who ≡ is_closed links who }
+    ensures emptied { (links : LinkTable) (from to who : ℕ) → is_closed (emptied links from to) who ≡ is_closed links who }
+{}
+
+/// Links stay between as many processes as they were made for.
+pub fn the_processes_stay_as_many()
+    ensures new { (procs : ℕ) → procs_of (no_links procs) ≡ procs }
+    ensures closed { (links : LinkTable) (to : ℕ) → procs_of (closed_to links to) ≡ procs_of links }
+    ensures sent { (links : LinkTable) (from to : ℕ) (message : Message) → procs_of (sent links from to message) ≡ procs_of links }
+    ensures taken { (links : LinkTable) (from to : ℕ) → procs_of (taken links from to) ≡ procs_of links }
+    ensures emptied { (links : LinkTable) (from to : ℕ) → procs_of (emptied links from to) ≡ procs_of links }
 {}
 
 /// Links have a row for each process, with a link to each, whatever happens.

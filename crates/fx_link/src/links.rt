@@ -1,6 +1,6 @@
-ghost use Rattle.std.specs.Prelude.{◌≡◌, ◌<◌, ◌≤◌, [], IfOk, OnOk, OnErr, All, length, map, slice_set};
+ghost use Rattle.std.specs.Prelude.{◌≡◌, ◌<◌, ◌≤◌, [], true, IfOk, IsOkAnd, OnOk, OnErr, All, length, map, slice_set};
 ghost use Rattle.std.specs.Option.{option_copied};
-ghost use Rattle.fx_link.specs.LinkTable.{procs_of, link_of, no_links, sent, first_of, taken, emptied, closed_to};
+ghost use Rattle.fx_link.specs.LinkTable.{procs_of, link_of, is_closed, no_links, sent, first_of, taken, emptied, closed_to};
 
 use crate::message::Message;
 use crate::row::Row;
@@ -46,12 +46,13 @@ impl Links {
         Ok(Links { rows, closed })
     }
 
-    /// Sends a message: it is the last on its link, or vanishes where the receiver is closed. Without memory
-    /// nothing changes.
+    /// Sends a message: it is the last on its link. Where the receiver is closed it vanishes, and no memory
+    /// is needed. Without memory nothing changes.
     pub fn send(&mut self, from: Proc, to: Proc, message: Message) -> Result<(), NoMemory>
         requires sender { from.0 < procs_of self.old }
         requires receiver { to.0 < procs_of self.old }
         ensures ok { OnOk result (self.new ≡ sent self.old from.0 to.0 message) }
+        ensures closed { is_closed self.old to.0 ≡ true → IsOkAnd result (λ _. self.new ≡ self.old) }
         ensures no_memory { OnErr result (self.new ≡ self.old) }
     {
         if self.closed[usize::from(to.0)] {
@@ -69,7 +70,8 @@ impl Links {
         self.rows[usize::from(from.0)].front(usize::from(to.0))
     }
 
-    /// Takes the oldest message from one process to another; `None` exactly where none is on the way.
+    /// Takes the oldest message from one process to another, moved out and not copied; `None` exactly where
+    /// none is on the way.
     pub fn take(&mut self, from: Proc, to: Proc) -> Option<Message>
         requires sender { from.0 < procs_of self.old }
         requires receiver { to.0 < procs_of self.old }

@@ -69,7 +69,8 @@ pub enum Message {
         r: u8,
         slots: Slots,
     },
-    /// Packed snapshots by stamp.
+    /// The sender's snapshots since its last commit barrier, packed, by stamp, for a member that is to
+    /// keep them.
     Share {
         e: Epoch,
         k: CallNo,
@@ -81,13 +82,15 @@ pub enum Message {
         k: CallNo,
         known: Option<Known>,
     },
-    /// What the sender can add to a snapshot that is to be made again, by stamp.
+    /// What the sender can add to make the receiver's snapshots again, by stamp; no bytes where it can't
+    /// add anything.
     Help {
         e: Epoch,
         k: CallNo,
         shares: StampShares,
     },
-    /// Snapshots that were made again, by stamp.
+    /// The sender's own snapshots, held all along or made again, by stamp, for a member that is to keep
+    /// them; no stamp where they couldn't be made again.
     Give {
         e: Epoch,
         k: CallNo,

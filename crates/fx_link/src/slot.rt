@@ -5,7 +5,8 @@ use fx_base::{Copied, NoMemory, Proc, Seq};
 pub enum Slot {
     /// It begins the job.
     Start,
-    /// It is a spare, and joins because others do.
+    /// It has no place, and joins since another process did, or since it learned that a process with a
+    /// place was lost.
     Spare,
     /// Its call failed or was revoked.
     Error,
@@ -15,15 +16,17 @@ pub enum Slot {
     Yes,
     /// It agrees, with a flag.
     Flag(i64),
-    /// It never stored anything under this group.
+    /// Each member said that it holds nothing under this group: the group is new, or all that held it are
+    /// lost.
     Fresh,
-    /// It can give all that it stored.
+    /// It has all that it is to hold: its own snapshots, held all along or made again, and those of the
+    /// members that it keeps some for.
     Kept,
-    /// Something that was stored can't be had any more.
+    /// Its own snapshots couldn't be made again.
     Gone,
-    /// It lacks what a process that was lost was to give.
+    /// It can't agree, for want of what a process that was lost was to send.
     NoLost(Proc),
-    /// It lacks what a process that left was to give.
+    /// It can't agree, for want of what a process that left was to send.
     NoLeft(Proc),
     /// The member was lost before its vote was heard.
     Lost,

@@ -55,7 +55,7 @@ fn closing_one_link_leaves_the_others(rt: HostRuntime) -> Result<(), Fail> {
 }
 
 /// The next stamp of a `tell`, and the first of those retained.
-fn told(message: &Message) -> Option<(Stamp, Option<Stamp>)> {
+fn tell_of(message: &Message) -> Option<(Stamp, Option<Stamp>)> {
     match message {
         Message::Tell {
             known: Some(known),
@@ -80,6 +80,6 @@ fn a_message_is_copied(rt: HostRuntime) -> Result<(), Fail> {
         k: CallNo(4),
         known: Some(known),
     };
-    assert_eq!(rt; told(&tell.copy()?), Some((Stamp(8), Some(Stamp(7)))));
+    assert_eq!(rt; tell_of(&tell.copy()?), Some((Stamp(8), Some(Stamp(7)))));
     Ok(())
 }
