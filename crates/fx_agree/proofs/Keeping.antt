@@ -5,7 +5,7 @@ use Rattle.fx_link.specs.declared.slot.Slot.{Slot}
 use Rattle.fx_ballot.specs.declared.heard.Heard.{Heard}
 use Rattle.fx_ballot.specs.declared.poll.Poll.{Poll}
 use Rattle.fx_ballot.specs.declared.poll.Poll.TheVariants as poll
-use Rattle.fx_ballot.specs.Turn.{Message, Turn, Estimate, hear, learn_loss, unheard}
+use Rattle.fx_ballot.specs.Turn.{Message, Estimate, hear, learn_loss, unheard}
 use Rattle.fx_ballot.specs.Seats.{Seated, at_seat, with_seat, seated, hears_seat, told_seat, spent, seat_turn, noting, polled, WholeEstimate, Whole}
 use Rattle.fx_ballot.proofs.Wholes.{whole_with, whole_seated, whole_hears, whole_polled, whole_spent}
 use Rattle.fx_agree.specs.Stages.{IsKept}

@@ -116,7 +116,8 @@ impl Ballot {
     }
 
     /// Takes the one turn that is enabled, and says what it did. After `Decided` each poll answers `Decided` with the same
-    /// slots. Fails only without memory, and then every later call that can fail does.
+    /// slots. Fails only without memory, and then every later call that can fail does. A poll that awaits a message takes no
+    /// memory, so it fails only where an earlier call did.
     pub fn poll(&mut self) -> Result<Poll, NoMemory>
         ensures takes_its_turn { OnOk result (self.new ≡ polled self.old) }
         ensures says_its_turn { IfOk result (λ answer. answer ≡ (seat_turn self.old).poll) }
@@ -128,6 +129,7 @@ impl Ballot {
         ensures stays_decided { (slots : List Slot) → self.old.phase ≡ Decided slots
             → OnOk result (self.new ≡ self.old) × IfOk result (λ answer. answer ≡ Poll.Decided slots) }
         ensures no_memory { OnErr result (self.new ≡ spent self.old) }
+        ensures waits_without_memory { OnErr result (self.old.failed ≡ false → (seat_turn self.old).poll ≢ Poll.NotYet) }
         ensures stays_failed { self.old.failed ≡ true → IsErr result }
         ensures keeps_its_members { self.new.members ≡ self.old.members }
         ensures gives_one_slot_each { IfOk result (λ answer. WholePoll self.old.members answer) }
@@ -149,6 +151,7 @@ impl Ballot {
         ensures takes { OnOk result (self.new ≡ polled self.old) }
         ensures says { IfOk result (λ answer. answer ≡ (seat_turn self.old).poll) }
         ensures no_memory { OnErr result (self.new ≡ self.old) }
+        ensures waits_without_memory { OnErr result ((seat_turn self.old).poll ≢ Poll.NotYet) }
         ensures keeps_its_members { self.new.members ≡ self.old.members }
     {
         match &self.stage {
@@ -174,6 +177,7 @@ impl Ballot {
         ensures takes { OnOk result (self.new ≡ polled self.old) }
         ensures says { IfOk result (λ answer. answer ≡ (seat_turn self.old).poll) }
         ensures no_memory { OnErr result (self.new ≡ self.old) }
+        ensures waits_without_memory { OnErr result ((seat_turn self.old).poll ≢ Poll.NotYet) }
         ensures keeps_its_members { self.new.members ≡ self.old.members }
     {
         if !are_known(&self.heard) {
@@ -190,6 +194,7 @@ impl Ballot {
         ensures takes { OnOk result (self.new ≡ polled self.old) }
         ensures says { IfOk result (λ answer. answer ≡ (seat_turn self.old).poll) }
         ensures no_memory { OnErr result (self.new ≡ self.old) }
+        ensures waits_without_memory { OnErr result ((seat_turn self.old).poll ≢ Poll.NotYet) }
         ensures keeps_its_members { self.new.members ≡ self.old.members }
     {
         let own = held.copy()?;
@@ -216,6 +221,7 @@ impl Ballot {
         ensures takes { OnOk result (self.new ≡ polled self.old) }
         ensures says { IfOk result (λ answer. answer ≡ (seat_turn self.old).poll) }
         ensures no_memory { OnErr result (self.new ≡ self.old) }
+        ensures waits_without_memory { OnErr result ((seat_turn self.old).poll ≢ Poll.NotYet) }
         ensures keeps_its_members { self.new.members ≡ self.old.members }
     {
         let heard = &self.heard[usize::from(number)];

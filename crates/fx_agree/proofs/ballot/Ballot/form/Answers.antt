@@ -1,6 +1,5 @@
-use Rattle.std.proofs.Common.{arith, subst, Some}
+use Rattle.std.proofs.Common.{arith, subst}
 use Rattle.std.proofs.lemmas.Grind.{common_steps}
-use Rattle.std.specs.Vec.{with_item}
 use Rattle.fx_agree.specs.contracts.ballot.Ballot.{the_view}
 use Rattle.fx_agree.specs.declared.stage.Stage.TheVariants as stage
 use Rattle.fx_agree.specs.Stages.{IsKept}
