@@ -1,9 +1,9 @@
-ghost use Rattle.std.specs.Prelude.{◌≡◌, ◌≢◌, ◌<◌, ◌≤◌, ◌↔◌, ℕ, List, replicate, true, length, IfOk, OnOk, OnErr, IsErr};
+ghost use Rattle.std.specs.Prelude.{◌≡◌, ◌≢◌, ◌<◌, ◌≤◌, ◌↔◌, ℕ, List, replicate, true, false, length, Some, None, IfOk, OnOk, OnErr, IsErr, IsSome};
 ghost use Rattle.fx_ballot.specs.Turn.{Vote, Estimate, Leaving, Voting, Round, Decided, slot_of, slots_of, unheard};
 ghost use Rattle.fx_ballot.specs.World.{Apart, entered, fresh, after, told, acted, turn_of};
 ghost use Rattle.fx_link.specs.declared.slot.Slot.{Slot};
 ghost use Rattle.fx_agree.specs.Stages.{IsRound};
-ghost use Rattle.fx_ballot.specs.Seats.{at_seat, seated, hears_seat, told_seat, seat_turn, polled, spent, as_member, InWorld, Awaits, Whole, WholePoll};
+ghost use Rattle.fx_ballot.specs.Seats.{at_seat, seated, hears_seat, told_seat, seat_turn, polled, spent, as_member, InWorld, Awaits, WholePoll};
 
 use crate::stage::Stage;
 use fx_ballot::{Heard, Poll};
@@ -23,15 +23,14 @@ pub struct Ballot {
 }
 
 impl Model for Ballot {
-    ghost use Rattle.std.specs.Prelude.{◌≡◌, ◌<◌, ◌≤◌, length};
     ghost use Rattle.fx_ballot.specs.Seats.{Seated};
-    ghost use Rattle.fx_agree.specs.Stages.{phase_of};
+    ghost use Rattle.fx_agree.specs.Stages.{phase_of, IsKept};
 
     ghost Value = { Seated };
 
     ghost view = { λ b. record { members = b.members; me = b.me; phase = phase_of b.stage; heard = b.heard.items; failed = b.failed } };
 
-    ghost invariant = { λ b. (length b.heard.items ≡ b.members) × (b.me < b.members) × (b.members ≤ 32) };
+    ghost invariant = { λ b. IsKept (record { members = b.members; me = b.me; phase = phase_of b.stage; heard = b.heard.items; failed = b.failed }) };
 }
 
 impl Ballot {
@@ -40,7 +39,6 @@ impl Ballot {
         requires few { members ≤ 32 }
         requires member { me < members }
         ensures gathers_votes { IfOk result (λ ballot. ballot ≡ seated members me vote) }
-        ensures has_one_slot_each { IfOk result (λ ballot. Whole ballot) }
         ensures has_entered { IfOk result (λ ballot. (name : ℕ → ℕ) → Apart members name → as_member name ballot ≡ entered (name me) vote fresh) }
     {
         let mut heard = nobody_heard(alloc, members)?;
@@ -60,7 +58,6 @@ impl Ballot {
         ensures has_heard { self.new ≡ hears_seat from (Vote slot) self.old }
         ensures has_heard_in_the_world { InWorld self.old self.new (λ name. after (name from) (Vote slot)) }
         ensures keeps_its_members { self.new.members ≡ self.old.members }
-        ensures stays_whole { Whole self.old → Whole self.new }
     {
         let heard = &mut self.heard[usize::from(from)];
         if heard.vote.is_none() {
@@ -78,7 +75,6 @@ impl Ballot {
         ensures no_memory { OnErr result (self.new ≡ spent self.old) }
         ensures stays_failed { self.old.failed ≡ true → IsErr result }
         ensures keeps_its_members { self.new.members ≡ self.old.members }
-        ensures stays_whole { OnOk result (Whole self.old → Whole self.new) }
     {
         if self.failed {
             return Err(NoMemory);
@@ -105,7 +101,6 @@ impl Ballot {
         ensures was_told { self.new ≡ told_seat who self.old }
         ensures was_told_in_the_world { InWorld self.old self.new (λ name. told (name who)) }
         ensures keeps_its_members { self.new.members ≡ self.old.members }
-        ensures stays_whole { Whole self.old → Whole self.new }
     {
         self.heard[usize::from(who)].lost = true;
     }
@@ -116,13 +111,13 @@ impl Ballot {
         ensures has_heard { self.new ≡ hears_seat who Leaving self.old }
         ensures has_heard_in_the_world { InWorld self.old self.new (λ name. after (name who) Leaving) }
         ensures keeps_its_members { self.new.members ≡ self.old.members }
-        ensures stays_whole { Whole self.old → Whole self.new }
     {
         self.heard[usize::from(who)].left = true;
     }
 
     /// Takes the one turn that is enabled, and says what it did. After `Decided` each poll answers `Decided` with the same
-    /// slots. Fails only without memory, and then every later call that can fail does.
+    /// slots. Fails only without memory, and then every later call that can fail does. A poll that awaits a message takes no
+    /// memory, so it fails only where an earlier call did.
     pub fn poll(&mut self) -> Result<Poll, NoMemory>
         ensures takes_its_turn { OnOk result (self.new ≡ polled self.old) }
         ensures says_its_turn { IfOk result (λ answer. answer ≡ (seat_turn self.old).poll) }
@@ -134,10 +129,11 @@ impl Ballot {
         ensures stays_decided { (slots : List Slot) → self.old.phase ≡ Decided slots
             → OnOk result (self.new ≡ self.old) × IfOk result (λ answer. answer ≡ Poll.Decided slots) }
         ensures no_memory { OnErr result (self.new ≡ spent self.old) }
+        ensures waits_without_memory { OnErr result (self.old.failed ≡ false → (seat_turn self.old).poll ≢ Poll.NotYet) }
         ensures stays_failed { self.old.failed ≡ true → IsErr result }
         ensures keeps_its_members { self.new.members ≡ self.old.members }
-        ensures stays_whole { OnOk result (Whole self.old → Whole self.new) }
-        ensures gives_one_slot_each { IfOk result (λ answer. Whole self.old → WholePoll self.old.members answer) }
+        ensures gives_one_slot_each { IfOk result (λ answer. WholePoll self.old.members answer) }
+        ensures waits_unchanged { IfOk result (λ answer. answer ≡ Poll.NotYet → self.new ≡ self.old) }
     {
         if self.failed {
             return Err(NoMemory);
@@ -155,6 +151,7 @@ impl Ballot {
         ensures takes { OnOk result (self.new ≡ polled self.old) }
         ensures says { IfOk result (λ answer. answer ≡ (seat_turn self.old).poll) }
         ensures no_memory { OnErr result (self.new ≡ self.old) }
+        ensures waits_without_memory { OnErr result ((seat_turn self.old).poll ≢ Poll.NotYet) }
         ensures keeps_its_members { self.new.members ≡ self.old.members }
     {
         match &self.stage {
@@ -163,7 +160,7 @@ impl Ballot {
                 let number = *number;
                 if number >= self.members {
                     let held = held.copy()?;
-                    self.decide(number, held)
+                    Ok(self.decide(number, held))
                 } else if number == self.me {
                     let held = held.copy()?;
                     self.speak(number, held)
@@ -180,15 +177,15 @@ impl Ballot {
         ensures takes { OnOk result (self.new ≡ polled self.old) }
         ensures says { IfOk result (λ answer. answer ≡ (seat_turn self.old).poll) }
         ensures no_memory { OnErr result (self.new ≡ self.old) }
+        ensures waits_without_memory { OnErr result ((seat_turn self.old).poll ≢ Poll.NotYet) }
         ensures keeps_its_members { self.new.members ≡ self.old.members }
     {
-        match gathered(*self.heard.allocator(), &self.heard)? {
-            None => Ok(Poll::NotYet),
-            Some(slots) => {
-                self.stage = Stage::Round(0, slots);
-                Ok(Poll::Moved)
-            }
+        if !are_known(&self.heard) {
+            return Ok(Poll::NotYet);
         }
+        let slots = gathered(*self.heard.allocator(), &self.heard)?;
+        self.stage = Stage::Round(0, slots);
+        Ok(Poll::Moved)
     }
 
     fn speak(&mut self, number: u8, held: Slots) -> Result<Poll, NoMemory>
@@ -197,26 +194,24 @@ impl Ballot {
         ensures takes { OnOk result (self.new ≡ polled self.old) }
         ensures says { IfOk result (λ answer. answer ≡ (seat_turn self.old).poll) }
         ensures no_memory { OnErr result (self.new ≡ self.old) }
+        ensures waits_without_memory { OnErr result ((seat_turn self.old).poll ≢ Poll.NotYet) }
         ensures keeps_its_members { self.new.members ≡ self.old.members }
     {
         let own = held.copy()?;
-        let said = held.copy()?;
-        self.heard[usize::from(self.me)].estimate = Some(own);
-        self.stage = Stage::Round(number + 1, held);
-        Ok(Poll::SendEstimate(said))
+        self.heard[usize::from(number)].estimate = Some(own);
+        self.stage.pass();
+        Ok(Poll::SendEstimate(held))
     }
 
-    fn decide(&mut self, number: u8, held: Slots) -> Result<Poll, NoMemory>
+    fn decide(&mut self, number: u8, held: Slots) -> Poll
         requires here { self.old.phase ≡ Round number held }
         requires all_passed { self.old.members ≤ number }
-        ensures takes { OnOk result (self.new ≡ polled self.old) }
-        ensures says { IfOk result (λ answer. answer ≡ (seat_turn self.old).poll) }
-        ensures no_memory { OnErr result (self.new ≡ self.old) }
+        ensures takes { self.new ≡ polled self.old }
+        ensures says { result ≡ (seat_turn self.old).poll }
         ensures keeps_its_members { self.new.members ≡ self.old.members }
     {
-        let answer = held.copy()?;
-        self.stage = Stage::Decided(held);
-        Ok(Poll::Decided(answer))
+        self.stage.close();
+        Poll::Decided(held)
     }
 
     fn follow(&mut self, number: u8) -> Result<Poll, NoMemory>
@@ -226,6 +221,7 @@ impl Ballot {
         ensures takes { OnOk result (self.new ≡ polled self.old) }
         ensures says { IfOk result (λ answer. answer ≡ (seat_turn self.old).poll) }
         ensures no_memory { OnErr result (self.new ≡ self.old) }
+        ensures waits_without_memory { OnErr result ((seat_turn self.old).poll ≢ Poll.NotYet) }
         ensures keeps_its_members { self.new.members ≡ self.old.members }
     {
         let heard = &self.heard[usize::from(number)];
@@ -259,28 +255,51 @@ fn nobody_heard(alloc: Global, members: u8) -> Result<Vec<Heard>, NoMemory>
     Ok(heard)
 }
 
-/// The slot of a member: its vote, else `Lost`, else `Left`; `None` while it is not known.
-fn slot_known(heard: &Heard) -> Option<Slot>
-    ensures { result ≡ slot_of heard.now.vote heard.now.lost heard.now.left }
+/// Whether a member's slot is known: its vote was heard, it is lost, or it left.
+fn is_known(heard: &Heard) -> bool
+    ensures known { result ≡ true → IsSome (slot_of heard.now.vote heard.now.lost heard.now.left) }
+    ensures unknown { result ≡ false → slot_of heard.now.vote heard.now.lost heard.now.left ≡ None }
 {
     match heard.vote {
-        Some(slot) => Some(slot),
-        None if heard.lost => Some(Slot::Lost),
-        None if heard.left => Some(Slot::Left),
-        None => None,
+        Some(_) => true,
+        None => heard.lost || heard.left,
     }
 }
 
-/// The slots of all members, where each is known.
-fn gathered(alloc: Global, heard: &[Heard]) -> Result<Option<Slots>, NoMemory>
-    ensures { IfOk result (λ slots. slots ≡ slots_of (at_seat heard.now) (length heard.now)) }
+/// Whether the slot of each member is known.
+fn are_known(heard: &[Heard]) -> bool
+    ensures known { result ≡ true → IsSome (slots_of (at_seat heard.now) (length heard.now)) }
+    ensures unknown { result ≡ false → slots_of (at_seat heard.now) (length heard.now) ≡ None }
 {
-    let mut slots = Slots::new(alloc);
     for known in heard {
-        match slot_known(known) {
-            Some(slot) => slots.push(slot)?,
-            None => return Ok(None),
+        if !is_known(known) {
+            return false;
         }
     }
-    Ok(Some(slots))
+    true
+}
+
+/// The slot of a member, which is known: its vote, else `Lost`, else `Left`.
+fn slot_known(heard: &Heard) -> Slot
+    requires { IsSome (slot_of heard.now.vote heard.now.lost heard.now.left) }
+    ensures { slot_of heard.now.vote heard.now.lost heard.now.left ≡ Some result }
+{
+    match heard.vote {
+        Some(slot) => slot,
+        None if heard.lost => Slot::Lost,
+        None => Slot::Left,
+    }
+}
+
+/// The slots of all members, each of which is known.
+fn gathered(alloc: Global, heard: &[Heard]) -> Result<Slots, NoMemory>
+    requires { IsSome (slots_of (at_seat heard.now) (length heard.now)) }
+    ensures { IfOk result (λ slots. slots_of (at_seat heard.now) (length heard.now) ≡ Some slots) }
+{
+    let mut slots = Slots::new(alloc);
+    slots.reserve(heard.len())?;
+    for known in heard {
+        slots.push(slot_known(known))?;
+    }
+    Ok(slots)
 }

@@ -1,7 +1,8 @@
 ghost use Rattle.std.specs.Prelude.{◌≡◌};
-ghost use Rattle.fx_agree.specs.Stages.{IsEarly, passed};
+ghost use Rattle.fx_agree.specs.Stages.{IsEarly, passed, closed};
 
 use fx_link::Slots;
+use std::mem;
 
 /// Where a member stands that has entered its ballot.
 #[derive(Debug, Drop)]
@@ -23,5 +24,15 @@ impl Stage {
         if let Stage::Round(number, _) = self {
             *number += 1;
         }
+    }
+
+    /// What is held is decided.
+    pub fn close(&mut self)
+        ensures { self.new ≡ closed self.old }
+    {
+        *self = match mem::replace(self, Stage::Voting) {
+            Stage::Round(_, held) => Stage::Decided(held),
+            stage => stage,
+        };
     }
 }

@@ -6,13 +6,15 @@ use Rattle.std.proofs.lemmas.Option.{slice_get-get_or}
 use Rattle.fx_link.specs.declared.slot.Slot.{Slot}
 use Rattle.fx_ballot.specs.Turn.{Phase, Outside, Voting, Round, Decided, Message, Estimate}
 use Rattle.fx_ballot.specs.World.{World, stays, may_leave, start, enters, hears, leaves, kills, tells, put_link}
-use Rattle.fx_ballot.specs.Laws.{vote_of, estimate_of, held, past, Reaches, StandsIn, OneDecision, IsTrueSlot, TrueSlots, Settled}
+use Rattle.fx_ballot.specs.Laws.{vote_of, estimate_of, held, past, Reaches, StandsIn, OneDecision, OriginOfSaid, PastHasSent, IsTrueSlot, TrueSlots, Settled}
 use Rattle.fx_ballot.proofs.Lists.{Each, each_in}
 use Rattle.fx_ballot.proofs.Messages.{Said, Knows, messages_kill, messages_tell, messages_leave, messages_enter, messages_hear}
 use Rattle.fx_ballot.proofs.Rounds.{Rounds, rounds_kill, rounds_tell, rounds_leave, rounds_enter, rounds_hear}
 use Rattle.fx_ballot.proofs.Origins.{Genuine, genuine_kill, genuine_tell, genuine_leave, genuine_enter, genuine_hear}
-use Rattle.fx_ballot.proofs.Trails.{Caught, LeavingLast, hear_all}
-use Rattle.fx_ballot.proofs.Turns.{Sound}
+use Rattle.fx_ballot.proofs.Spoken.{spoken_kill, spoken_tell, spoken_leave, spoken_enter, spoken_hear}
+use Rattle.fx_ballot.proofs.Trails.{LeavingLast, hear_all}
+pub use Rattle.fx_ballot.proofs.Trails.{Caught, caught_kill, caught_tell, caught_hear, caught_enter, caught_leave, left_heard}
+pub use Rattle.fx_ballot.proofs.Turns.{Sound, sound_act, caught_act}
 
 -- nobody has entered and nothing was said; some may be killed, and some told of them
 pub record Blank (w : World) : Type 0 where
@@ -85,6 +87,7 @@ sound_blank n name w h = record {
   messages = record { knows = blank_knows w h; links = λ a b. subst (Each (Said n name w a)) (sym (h.link a b)) tt };
   rounds = blank_rounds n name w h;
   genuine = blank_genuine n name w h;
+  spoken = record { said = λ c l e. absurd (let bad : false ≡ true = sym (ap (past c) (h.phase (name c))) ∙ e in cc) };
 }
 
 pub caught_blank : (sees : ℕ → Bool) (w : World) → Blank w → Caught sees w
@@ -100,13 +103,19 @@ caught_blank sees w h = record {
 
 pub sound_kill : (n : ℕ) (name : ℕ → ℕ) (p : ℕ) (w : World) → Sound n name w → Sound n name (kills p w)
 sound_kill n name p w h =
-    record { messages = messages_kill n name p w h.messages; rounds = rounds_kill n name p w h.rounds; genuine = genuine_kill n name p w h.genuine }
+    record {
+      messages = messages_kill n name p w h.messages;
+      rounds = rounds_kill n name p w h.rounds;
+      genuine = genuine_kill n name p w h.genuine;
+      spoken = spoken_kill n name p w h.spoken;
+    }
 
 pub sound_tell : (n : ℕ) (name : ℕ → ℕ) (p q : ℕ) (w : World) → (w.member p).living ≡ false → Sound n name w → Sound n name (tells p q w)
 sound_tell n name p q w dead h = record {
   messages = messages_tell n name p q w dead h.messages;
   rounds = rounds_tell n name p q w h.rounds;
   genuine = genuine_tell n name p q w h.genuine;
+  spoken = spoken_tell n name p q w h.spoken;
 }
 
 pub sound_leave : (n : ℕ) (name : ℕ → ℕ) (to : ℕ → Bool) (p : ℕ) (w : World) → may_leave (w.member p).phase ≡ true
@@ -115,6 +124,7 @@ sound_leave n name to p w may h = record {
   messages = messages_leave n name to p w h.messages;
   rounds = rounds_leave n name to p w h.rounds;
   genuine = genuine_leave n name to p w may h.genuine;
+  spoken = spoken_leave n name to p w h.spoken;
 }
 
 pub sound_enter : (n : ℕ) (name : ℕ → ℕ) (to : ℕ → Bool) (p : ℕ) (vote : Slot) (w : World) → (w.member p).phase ≡ Outside
@@ -123,6 +133,7 @@ sound_enter n name to p vote w out here h = record {
   messages = messages_enter n name to p vote w out here h.messages;
   rounds = rounds_enter n name to p vote w out h.rounds;
   genuine = genuine_enter n name to p vote w (h.messages.knows.outside p out) here h.genuine;
+  spoken = spoken_enter n name to p vote w h.spoken;
 }
 
 pub sound_hear : (n : ℕ) (name : ℕ → ℕ) (a b : ℕ) (x : Message) (rest : List Message) (w : World) → w.link a b ≡ x ∷ rest
@@ -133,6 +144,7 @@ sound_hear n name a b x rest w front h =
       messages = messages_hear n name a b x rest w front h.messages;
       rounds = rounds_hear (put_link w.link a b rest) n name a b x w both.0 h.rounds;
       genuine = genuine_hear (put_link w.link a b rest) n name a b x w both.0 h.genuine;
+      spoken = spoken_hear (put_link w.link a b rest) n name a b x w both.0 h.spoken;
     }
 
 -- two members that decided hold the same
@@ -152,6 +164,32 @@ sound_silent n name w h p out = h.messages.knows.outside p out
 pub sound_entered : (n : ℕ) (name : ℕ → ℕ) (w : World) → Sound n name w → (p : ℕ) → vote_of w p ≡ None → (w.member p).phase ≡ Outside
 sound_entered n name w h p none = h.messages.knows.entered p none
 
+-- what was heard of a member is what it said, who was told as lost was killed, and who was seen to leave has left
+pub sound_vote : (n : ℕ) (name : ℕ → ℕ) (w : World) → Sound n name w → (p c : ℕ) (vote : Slot) → ((w.member p).heard c).vote ≡ Some vote
+    → vote_of w c ≡ Some vote
+sound_vote n name w h p c vote e = h.messages.knows.votes p c vote e
+
+pub sound_heard : (n : ℕ) (name : ℕ → ℕ) (w : World) → Sound n name w → (p c : ℕ) (slots : List Slot)
+    → ((w.member p).heard c).estimate ≡ Some slots → estimate_of w c ≡ Some slots
+sound_heard n name w h p c slots e = h.messages.knows.estimates p c slots e
+
+pub sound_lost : (n : ℕ) (name : ℕ → ℕ) (w : World) → Sound n name w → (p c : ℕ) → ((w.member p).heard c).lost ≡ true
+    → (w.member c).living ≡ false
+sound_lost n name w h p c e = h.messages.knows.lost p c e
+
+pub sound_left : (n : ℕ) (name : ℕ → ℕ) (w : World) → Sound n name w → (p c : ℕ) → ((w.member p).heard c).left ≡ true
+    → (w.member c).gone ≡ true
+sound_left n name w h p c e = h.messages.knows.left p c e
+
+-- who is past its own round has sent its estimate
+pub sound_spoken : (n : ℕ) (name : ℕ → ℕ) (w : World) → Sound n name w → PastHasSent n name w
+sound_spoken n name w h c low e = h.spoken.said c low e
+
+-- a member that sent its estimate is past its own round, and holds that estimate
+pub sound_holds : (n : ℕ) (name : ℕ → ℕ) (w : World) → Sound n name w → (c : ℕ) (slots : List Slot) → c < n
+    → estimate_of w (name c) ≡ Some slots → (past c (w.member (name c)).phase ≡ true) × (held (w.member (name c)).phase ≡ Some slots)
+sound_holds n name w h c slots low e = h.rounds.spoke c slots low e
+
 -- an estimate that is under way is its sender's, and its round is the sender's seat
 pub sound_sender : (n : ℕ) (name : ℕ → ℕ) (w : World) → Sound n name w → (a q r : ℕ) (slots : List Slot)
     → StandsIn (Estimate r slots) (w.link a q) → (estimate_of w a ≡ Some slots) × (r < n) × (name r ≡ a)
@@ -169,6 +207,10 @@ sound_sent n name w h q r slots (inr e) =
 pub sound_estimate : (n : ℕ) (name : ℕ → ℕ) (w : World) → Sound n name w → (r : ℕ) (slots : List Slot) → r < n
     → estimate_of w (name r) ≡ Some slots → TrueSlots n name w slots
 sound_estimate n name w h r slots low e = h.genuine.lists (name r) slots (h.rounds.spoke r slots low e).1
+
+-- each estimate that was heard or is under way has true slots
+pub sound_reaches : (n : ℕ) (name : ℕ → ℕ) (w : World) → Sound n name w → OriginOfSaid n name w
+sound_reaches n name w h q r slots low reach = sound_estimate n name w h r slots low (sound_sent n name w h q r slots reach)
 
 -- a member that voted and lives has its own vote in its own slot
 pub own_slot : (w : World) (p : ℕ) (slot vote : Slot) → ((w.member p).phase ≡ Outside → vote_of w p ≡ None)

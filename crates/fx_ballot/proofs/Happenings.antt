@@ -1,6 +1,5 @@
 -- Votes are cast by enterings, leavings are moves, and so are killings.
-use Rattle.std.proofs.Common.{◌≡◌, ℕ, ◌≢◌, ◌==◌, Bool, true, false, not, ◌&&◌, List, [], ◌∷◌, Some, None, ◌⊎◌, inl, inr, arith, refl, subst, sym, ◌∙◌}
-use Rattle.std.specs.Prelude.{nat_lt}
+use Rattle.std.proofs.Common.{◌≡◌, ℕ, ◌≢◌, Bool, true, false, List, [], ◌∷◌, Some, None, ◌⊎◌, inl, inr, arith, refl, subst, sym, ◌∙◌}
 use Rattle.std.proofs.lemmas.Bool.Decides.{nat_tests}
 use Rattle.std.proofs.lemmas.Bool.{cond_both, cases_eq}
 use Rattle.fx_link.specs.declared.slot.Slot.{Slot}
@@ -8,7 +7,7 @@ use Rattle.fx_ballot.specs.declared.heard.Heard.{Heard}
 use Rattle.fx_ballot.specs.declared.poll.Poll.{Poll}
 use Rattle.fx_ballot.specs.declared.poll.Poll.TheVariants as poll
 use Rattle.fx_ballot.specs.Turn.{Message, Turn}
-use Rattle.fx_ballot.specs.World.{World, Move, Enter, Act, Hear, Leave, Kill, Tell, stays, is_outside, may_leave, among, Apart, start, put_link, own_after, enters, hears, leaves, kills, tells, acts, turn_of, happens, run}
+use Rattle.fx_ballot.specs.World.{World, Move, Enter, Act, Hear, Leave, Kill, Tell, enabled, among, Apart, start, put_link, own_after, enters, hears, leaves, kills, tells, acts, turn_of, happens, run}
 use Rattle.fx_ballot.specs.Laws.{vote_of, EntersWith, Leaves, KillsIt, SomeMove, Happened}
 use Rattle.fx_ballot.proofs.Lists.{Each}
 use Rattle.fx_ballot.proofs.Messages.{Said, Messages}
@@ -22,8 +21,25 @@ record Brought (name : ℕ → ℕ) (move : Move) (w v : World) : Type 0 where
   pub gone : (p : ℕ) → (v.member p).gone ≡ true → ((w.member p).gone ≡ true) ⊎ Leaves name p move
   pub killed : (p : ℕ) → (v.member p).living ≡ false → ((w.member p).living ≡ false) ⊎ KillsIt name p move
 
-nothing : (name : ℕ → ℕ) (move : Move) (w : World) → Brought name move w w
-nothing name move w = record { votes = λ p vote e. inl e; gone = λ p e. inl e; killed = λ p e. inl e }
+-- the same, and the move was enabled where it brought something about
+record Caused (n : ℕ) (name : ℕ → ℕ) (move : Move) (w v : World) : Type 0 where
+  pub votes : (p : ℕ) (vote : Slot) → vote_of v p ≡ Some vote
+      → (vote_of w p ≡ Some vote) ⊎ (EntersWith name p vote move × (enabled n name w move ≡ true))
+  pub gone : (p : ℕ) → (v.member p).gone ≡ true → ((w.member p).gone ≡ true) ⊎ (Leaves name p move × (enabled n name w move ≡ true))
+  pub killed : (p : ℕ) → (v.member p).living ≡ false → ((w.member p).living ≡ false) ⊎ (KillsIt name p move × (enabled n name w move ≡ true))
+
+was_enabled : (n : ℕ) (name : ℕ → ℕ) (move : Move) (w v : World) → enabled n name w move ≡ true → Brought name move w v → Caused n name move w v
+was_enabled n name move w v on b = record {
+  votes = λ p vote e. elim (b.votes p vote e) [ inl before ↦ inl before | inr it ↦ inr (it, on) ];
+  gone = λ p e. elim (b.gone p e) [ inl before ↦ inl before | inr it ↦ inr (it, on) ];
+  killed = λ p e. elim (b.killed p e) [ inl before ↦ inl before | inr it ↦ inr (it, on) ];
+}
+
+unmoved : (name : ℕ → ℕ) (move : Move) (w : World) → Brought name move w w
+unmoved name move w = record { votes = λ p vote e. inl e; gone = λ p e. inl e; killed = λ p e. inl e }
+
+nothing : (n : ℕ) (name : ℕ → ℕ) (move : Move) (w : World) → Caused n name move w w
+nothing n name move w = record { votes = λ p vote e. inl e; gone = λ p e. inl e; killed = λ p e. inl e }
 
 -- a move that casts no vote, and by which nobody leaves or is killed
 same : (name : ℕ → ℕ) (move : Move) (w v : World) → ((p : ℕ) → vote_of v p ≡ vote_of w p) → ((p : ℕ) → (v.member p).gone ≡ (w.member p).gone)
@@ -82,7 +98,7 @@ heard_living a b x rest w p = grind (arith, nat_tests)
 
 heard_brings : (n : ℕ) (name : ℕ → ℕ) (i j : ℕ) (w : World) → Messages n name w → (xs : List Message) → w.link (name i) (name j) ≡ xs
     → Brought name (Hear i j) w (hears (name i) (name j) xs w)
-heard_brings n name i j w m [] front = nothing name (Hear i j) w
+heard_brings n name i j w m [] front = unmoved name (Hear i j) w
 heard_brings n name i j w m (x ∷ rest) front =
     let both : Each (Said n name w (name i)) (x ∷ rest) = subst (Each (Said n name w (name i))) front (m.links (name i) (name j)) in
     let link : ℕ → ℕ → List Message = put_link w.link (name i) (name j) rest in
@@ -134,28 +150,31 @@ told_brings name i j w =
     told_living : (a b : ℕ) (w : World) (p : ℕ) → ((tells a b w).member p).living ≡ (w.member p).living
     told_living a b w p = grind (arith, nat_tests)
 
-brings : (n : ℕ) (name : ℕ → ℕ) (w : World) (move : Move) → Messages n name w → Brought name move w (happens n name w move)
+brings : (n : ℕ) (name : ℕ → ℕ) (w : World) (move : Move) → Messages n name w → Caused n name move w (happens n name w move)
 brings n name w (Enter i slot) m =
-    cond_both {A = World} (nat_lt i n && (stays (w.member (name i)) && is_outside (w.member (name i)).phase)) (enters (among n name) (name i) slot w) w
-    (Brought name (Enter i slot) w) (λ e. entered_brings name (among n name) i slot w) (λ e. nothing name (Enter i slot) w)
+    cond_both {A = World} (enabled n name w (Enter i slot)) (enters (among n name) (name i) slot w) w (Caused n name (Enter i slot) w)
+    (λ e. was_enabled n name (Enter i slot) w (enters (among n name) (name i) slot w) e (entered_brings name (among n name) i slot w))
+    (λ e. nothing n name (Enter i slot) w)
 brings n name w (Act i) m =
-    cond_both {A = World} (nat_lt i n && stays (w.member (name i))) (acts n name i w) w
-    (Brought name (Act i) w) (λ e. acted_brings n name i w) (λ e. nothing name (Act i) w)
+    cond_both {A = World} (enabled n name w (Act i)) (acts n name i w) w (Caused n name (Act i) w)
+    (λ e. was_enabled n name (Act i) w (acts n name i w) e (acted_brings n name i w)) (λ e. nothing n name (Act i) w)
 brings n name w (Hear i j) m =
-    cond_both {A = World} (nat_lt i n && (nat_lt j n && (w.member (name j)).living)) (hears (name i) (name j) (w.link (name i) (name j)) w) w
-    (Brought name (Hear i j) w) (λ e. heard_brings n name i j w m (w.link (name i) (name j)) refl) (λ e. nothing name (Hear i j) w)
+    cond_both {A = World} (enabled n name w (Hear i j)) (hears (name i) (name j) (w.link (name i) (name j)) w) w (Caused n name (Hear i j) w)
+    (λ e. was_enabled n name (Hear i j) w (hears (name i) (name j) (w.link (name i) (name j)) w) e (heard_brings n name i j w m (w.link (name i) (name j)) refl))
+    (λ e. nothing n name (Hear i j) w)
 brings n name w (Leave i) m =
-    cond_both {A = World} (nat_lt i n && (stays (w.member (name i)) && may_leave (w.member (name i)).phase)) (leaves (among n name) (name i) w) w
-    (Brought name (Leave i) w) (λ e. left_brings name (among n name) i w) (λ e. nothing name (Leave i) w)
+    cond_both {A = World} (enabled n name w (Leave i)) (leaves (among n name) (name i) w) w (Caused n name (Leave i) w)
+    (λ e. was_enabled n name (Leave i) w (leaves (among n name) (name i) w) e (left_brings name (among n name) i w)) (λ e. nothing n name (Leave i) w)
 brings n name w (Kill i) m =
-    cond_both {A = World} (nat_lt i n) (kills (name i) w) w (Brought name (Kill i) w) (λ e. killed_brings name i w) (λ e. nothing name (Kill i) w)
+    cond_both {A = World} (enabled n name w (Kill i)) (kills (name i) w) w (Caused n name (Kill i) w)
+    (λ e. was_enabled n name (Kill i) w (kills (name i) w) e (killed_brings name i w)) (λ e. nothing n name (Kill i) w)
 brings n name w (Tell i j) m =
-    cond_both {A = World} (nat_lt i n && (nat_lt j n && (not (i == j) && not (w.member (name i)).living))) (tells (name i) (name j) w) w
-    (Brought name (Tell i j) w) (λ e. told_brings name i j w) (λ e. nothing name (Tell i j) w)
+    cond_both {A = World} (enabled n name w (Tell i j)) (tells (name i) (name j) w) w (Caused n name (Tell i j) w)
+    (λ e. was_enabled n name (Tell i j) w (tells (name i) (name j) w) e (told_brings name i j w)) (λ e. nothing n name (Tell i j) w)
 
--- it held before the moves, or one of them brought it about
+-- it held before the moves, or one of them that was enabled brought it about
 votes_from : (n : ℕ) (name : ℕ → ℕ) (moves : List Move) (w : World) → Apart n name → Kept n name w → (p : ℕ) (vote : Slot)
-    → vote_of (run n name moves w) p ≡ Some vote → (vote_of w p ≡ Some vote) ⊎ SomeMove (EntersWith name p vote) moves
+    → vote_of (run n name moves w) p ≡ Some vote → (vote_of w p ≡ Some vote) ⊎ SomeMove n name (EntersWith name p vote) w moves
 votes_from n name [] w apart h p vote e = inl e
 votes_from n name (move ∷ moves) w apart h p vote e =
     elim (votes_from n name moves (happens n name w move) apart (keeps n name w move apart h) p vote e) [
@@ -164,7 +183,7 @@ votes_from n name (move ∷ moves) w apart h p vote e =
     ]
 
 gone_from : (n : ℕ) (name : ℕ → ℕ) (moves : List Move) (w : World) → Apart n name → Kept n name w → (p : ℕ)
-    → ((run n name moves w).member p).gone ≡ true → ((w.member p).gone ≡ true) ⊎ SomeMove (Leaves name p) moves
+    → ((run n name moves w).member p).gone ≡ true → ((w.member p).gone ≡ true) ⊎ SomeMove n name (Leaves name p) w moves
 gone_from n name [] w apart h p e = inl e
 gone_from n name (move ∷ moves) w apart h p e =
     elim (gone_from n name moves (happens n name w move) apart (keeps n name w move apart h) p e) [
@@ -173,7 +192,7 @@ gone_from n name (move ∷ moves) w apart h p e =
     ]
 
 killed_from : (n : ℕ) (name : ℕ → ℕ) (moves : List Move) (w : World) → Apart n name → Kept n name w → (p : ℕ)
-    → ((run n name moves w).member p).living ≡ false → ((w.member p).living ≡ false) ⊎ SomeMove (KillsIt name p) moves
+    → ((run n name moves w).member p).living ≡ false → ((w.member p).living ≡ false) ⊎ SomeMove n name (KillsIt name p) w moves
 killed_from n name [] w apart h p e = inl e
 killed_from n name (move ∷ moves) w apart h p e =
     elim (killed_from n name moves (happens n name w move) apart (keeps n name w move apart h) p e) [
@@ -181,7 +200,7 @@ killed_from n name (move ∷ moves) w apart h p e =
       | inr later ↦ inr (inr later)
     ]
 
-pub happened : (n : ℕ) (name : ℕ → ℕ) (moves : List Move) → Apart n name → Happened name moves (run n name moves start)
+pub happened : (n : ℕ) (name : ℕ → ℕ) (moves : List Move) → Apart n name → Happened n name moves
 happened n name moves apart = record {
   votes = λ p vote e.
       elim (votes_from n name moves start apart (kept n name [] apart) p vote e) [ inl before ↦ absurd (no_vote vote before) | inr it ↦ it ];

@@ -4,10 +4,15 @@ pub mod Messages
 pub mod Rounds
 pub mod Origins
 pub mod Trails
+pub mod Spoken
 pub mod Turns
 pub mod Face
 pub mod Strangers
+pub mod Names
 pub mod Runs
+pub mod Wordless
+pub mod Waiting
 pub mod Readings
+pub mod Alike
 pub mod Happenings
 pub mod Wholes

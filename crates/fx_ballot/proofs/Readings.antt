@@ -62,7 +62,7 @@ known_below n (suc m) name heard k apart all low =
 pub known_at : (n : ℕ) (name : ℕ → ℕ) (heard : List Heard) (k : ℕ) → Apart n name → k < n → known_of n name heard (name k) ≡ at_seat heard k
 known_at n name heard k apart low = known_below n n name heard k apart (omega arith) low
 
-same_member : (m t : Member) → m.phase ≡ t.phase → ((p : ℕ) → m.heard p ≡ t.heard p) → m.living ≡ t.living → m.gone ≡ t.gone → m ≡ t
+pub same_member : (m t : Member) → m.phase ≡ t.phase → ((p : ℕ) → m.heard p ≡ t.heard p) → m.living ≡ t.living → m.gone ≡ t.gone → m ≡ t
 same_member m t a b c d = λ i. record { phase = a i; heard = λ p. b p i; living = c i; gone = d i }
 
 -- a change of what is known of one seat is that change of what is known of its process

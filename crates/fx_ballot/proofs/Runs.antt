@@ -6,10 +6,10 @@ use Rattle.std.proofs.lemmas.Bool.Decides.{nat_tests}
 use Rattle.std.proofs.lemmas.Bool.{cond_both}
 use Rattle.fx_ballot.specs.Turn.{Phase, Outside, Voting, Round, Decided, Message}
 use Rattle.fx_ballot.specs.World.{Member, World, Move, Enter, Act, Hear, Leave, Kill, Tell, stays, is_outside, may_leave, among, Apart, start, enters, hears, leaves, kills, tells, acts, happens, run}
-use Rattle.fx_ballot.specs.Laws.{OneDecision, Origin, StillOpen, LeavingTellsAll, OwnSlot, RoundsNameTheirSender, estimate_of, vote_of}
+use Rattle.fx_ballot.specs.Laws.{OneDecision, Origin, OriginOfSaid, PastHasSent, StillOpen, LeavingTellsAll, OwnSlot, RoundsNameTheirSender, estimate_of, vote_of}
 use Rattle.fx_ballot.proofs.Trails.{Caught, caught_kill, caught_tell, caught_hear, caught_enter, caught_leave, left_heard}
 use Rattle.fx_ballot.proofs.Turns.{Sound, sound_act, caught_act}
-use Rattle.fx_ballot.proofs.Face.{blank_start, sound_blank, caught_blank, sound_kill, sound_tell, sound_leave, sound_enter, sound_hear, sound_one, sound_origin, sound_own_slot, sound_settled, sound_sender, sound_entered}
+use Rattle.fx_ballot.proofs.Face.{blank_start, sound_blank, caught_blank, sound_kill, sound_tell, sound_leave, sound_enter, sound_hear, sound_one, sound_origin, sound_reaches, sound_spoken, sound_own_slot, sound_settled, sound_sender, sound_entered}
 
 -- what is kept by every move
 pub record Kept (n : ℕ) (name : ℕ → ℕ) (w : World) : Type 0 where
@@ -117,6 +117,12 @@ one_decision n name moves apart = sound_one n name (run n name moves start) (kep
 
 pub origin : (n : ℕ) (name : ℕ → ℕ) (moves : List Move) → Apart n name → Origin n name (run n name moves start)
 origin n name moves apart = sound_origin n name (run n name moves start) (kept n name moves apart).sound
+
+pub origin_of_said : (n : ℕ) (name : ℕ → ℕ) (moves : List Move) → Apart n name → OriginOfSaid n name (run n name moves start)
+origin_of_said n name moves apart = sound_reaches n name (run n name moves start) (kept n name moves apart).sound
+
+pub past_has_sent : (n : ℕ) (name : ℕ → ℕ) (moves : List Move) → Apart n name → PastHasSent n name (run n name moves start)
+past_has_sent n name moves apart = sound_spoken n name (run n name moves start) (kept n name moves apart).sound
 
 pub still_open : (n : ℕ) (name : ℕ → ℕ) (moves : List Move) → Apart n name → StillOpen n name (run n name moves start)
 still_open n name moves apart = sound_settled n name (run n name moves start) (kept n name moves apart).sound

@@ -36,7 +36,7 @@ among_seat (suc n) name i l =
     that false rest e = e
 
 -- who has a seat is another process
-another : (n : ℕ) (name : ℕ → ℕ) (p q : ℕ) → among n name p ≡ false → among n name q ≡ true → p ≢ q
+pub another : (n : ℕ) (name : ℕ → ℕ) (p q : ℕ) → among n name p ≡ false → among n name q ≡ true → p ≢ q
 another n name p q a b e = let bad : false ≡ true = sym a ∙ ap (among n name) e ∙ b in cc
 
 pub strangers_blank : (n : ℕ) (name : ℕ → ℕ) (w : World) → Blank w → Strangers n name w
@@ -54,7 +54,7 @@ pub strangers_tell : (n : ℕ) (name : ℕ → ℕ) (o q : ℕ) (w : World) → 
 strangers_tell n name o q w h =
     record { each = λ p a. stays_strange w (tells o q w) p (grind (arith, nat_tests)) (grind (arith, nat_tests)) (grind (arith, nat_tests)) (h.each p a) }
 
-heard_phase : (a b : ℕ) (x : Message) (rest : List Message) (w : World) (p : ℕ) → ((hears a b (x ∷ rest) w).member p).phase ≡ (w.member p).phase
+pub heard_phase : (a b : ℕ) (x : Message) (rest : List Message) (w : World) (p : ℕ) → ((hears a b (x ∷ rest) w).member p).phase ≡ (w.member p).phase
 heard_phase a b x rest w p = grind (arith, nat_tests)
 
 pub strangers_hear : (n : ℕ) (name : ℕ → ℕ) (a b : ℕ) (x : Message) (rest : List Message) (w : World) → w.link a b ≡ x ∷ rest

@@ -4,14 +4,15 @@ use Rattle.std.specs.Prelude.{nat_lt}
 use Rattle.std.proofs.lemmas.Bool.Decides.{nat_tests}
 use Rattle.std.proofs.lemmas.Bool.{cond_both}
 use Rattle.fx_link.specs.declared.slot.Slot.{Slot}
-use Rattle.fx_ballot.specs.declared.heard.Heard.{Heard}
 use Rattle.fx_ballot.specs.Turn.{Phase, Outside, Voting, Round, Decided, Message, Estimate, Turn, turn, form, speak, follow, decide, slots_of}
-use Rattle.fx_ballot.specs.World.{Member, World, put, stays, Apart, own_after, sent_by, told_all, among, acts}
+use Rattle.fx_ballot.specs.World.{Member, World, stays, Apart, told_all, among, acts}
 use Rattle.fx_ballot.specs.Laws.{estimate_of, held, TrueSlots}
 use Rattle.fx_ballot.proofs.Grows.{goes, says, grows_go, grows_say}
 use Rattle.fx_ballot.proofs.Messages.{Messages, messages_go, messages_say}
 use Rattle.fx_ballot.proofs.Rounds.{Rounds, rounds_wait, rounds_form, rounds_speak, rounds_pass, rounds_adopt, rounds_decide}
 use Rattle.fx_ballot.proofs.Trails.{Caught, caught_go, caught_say}
+use Rattle.fx_ballot.proofs.Spoken.{Spoken, spoken_act}
+pub use Rattle.fx_ballot.proofs.Spoken.{stepped, seen_by}
 use Rattle.fx_ballot.proofs.Origins.{Genuine, genuine_turn, turned_go, turned_say, slots_true, slot_true}
 
 -- what every state that a list of moves leads to meets
@@ -19,15 +20,13 @@ pub record Sound (n : ℕ) (name : ℕ → ℕ) (w : World) : Type 0 where
   pub messages : Messages n name w
   pub rounds : Rounds n name w
   pub genuine : Genuine n name w
+  pub spoken : Spoken n name w
 
--- the world after the member at seat i took the turn given
-abbrev pub stepped : ℕ → (ℕ → ℕ) → ℕ → World → Turn → World
-stepped n name i w t = record {
-  member =
-      put w.member (name i)
-      (record (w.member (name i)) { phase = t.phase; heard = put (w.member (name i)).heard (name i) (own_after t.poll ((w.member (name i)).heard (name i))) });
-  link = told_all (among n name) w.link (name i) (sent_by i t.poll);
-}
+-- the part of it that is shown turn by turn
+record Turned (n : ℕ) (name : ℕ → ℕ) (w : World) : Type 0 where
+  pub messages : Messages n name w
+  pub rounds : Rounds n name w
+  pub genuine : Genuine n name w
 
 -- the links where nothing new was said
 abbrev quiet : ℕ → (ℕ → ℕ) → ℕ → World → ℕ → ℕ → List Message
@@ -40,7 +39,7 @@ not_gone m e = grind (arith, nat_tests)
 sound_go : (n : ℕ) (name : ℕ → ℕ) (i : ℕ) (phase : Phase) (w : World) → stays (w.member (name i)) ≡ true
     → (phase ≡ Outside → (w.member (name i)).phase ≡ Outside) → ((w.member (name i)).phase ≡ Outside → phase ≡ Outside)
     → ((slots : List Slot) → held phase ≡ Some slots → TrueSlots n name w slots)
-    → Rounds n name (goes (quiet n name i w) (name i) phase w) → Sound n name w → Sound n name (goes (quiet n name i w) (name i) phase w)
+    → Rounds n name (goes (quiet n name i w) (name i) phase w) → Sound n name w → Turned n name (goes (quiet n name i w) (name i) phase w)
 sound_go n name i phase w here out still true_slots rounds h = record {
   messages = messages_go n name (among n name) (name i) phase w (not_gone (w.member (name i)) here) out still h.messages;
   rounds = rounds;
@@ -50,18 +49,14 @@ sound_go n name i phase w here out still true_slots rounds h = record {
 }
 
 sound_wait : (n : ℕ) (name : ℕ → ℕ) (i : ℕ) (phase : Phase) (w : World) → stays (w.member (name i)) ≡ true → (w.member (name i)).phase ≡ phase
-    → Sound n name w → Sound n name (goes (quiet n name i w) (name i) phase w)
+    → Sound n name w → Turned n name (goes (quiet n name i w) (name i) phase w)
 sound_wait n name i phase w here at h =
     sound_go n name i phase w here (λ e. at ∙ e) (λ e. sym at ∙ e)
     (λ slots e. h.genuine.lists (name i) slots (ap held at ∙ e))
     (rounds_wait (quiet n name i w) n name (name i) phase w at h.rounds) h
 
--- what the member at seat i knows of each seat
-abbrev pub seen_by : (ℕ → ℕ) → ℕ → World → ℕ → Heard
-seen_by name i w k = (w.member (name i)).heard (name k)
-
 sound_form : (n : ℕ) (name : ℕ → ℕ) (i : ℕ) (w : World) → i < n → stays (w.member (name i)) ≡ true → (w.member (name i)).phase ≡ Voting
-    → Sound n name w → (slots : Option (List Slot)) → slots_of (seen_by name i w) n ≡ slots → Sound n name (stepped n name i w (form slots))
+    → Sound n name w → (slots : Option (List Slot)) → slots_of (seen_by name i w) n ≡ slots → Turned n name (stepped n name i w (form slots))
 sound_form n name i w low here at h None e = sound_wait n name i Voting w here at h
 sound_form n name i w low here at h (Some slots) e =
     sound_go n name i (Round 0 slots) w here (λ bad. absurd (cc)) (λ bad. absurd (let outside : Voting ≡ Outside = sym at ∙ bad in cc))
@@ -82,13 +77,13 @@ unsaid : (n : ℕ) (name : ℕ → ℕ) (i : ℕ) (s slots : List Slot) (w : Wor
 unsaid n name i s slots w low at h e = grind (arith, nat_tests, at, h.spoke i s low e)
 
 sound_speak : (n : ℕ) (name : ℕ → ℕ) (i r : ℕ) (slots : List Slot) (w : World) → Apart n name → i < n → stays (w.member (name i)) ≡ true
-    → (w.member (name i)).phase ≡ Round r slots → r ≡ i → Sound n name w → Sound n name (stepped n name i w (speak r slots))
+    → (w.member (name i)).phase ≡ Round r slots → r ≡ i → Sound n name w → Turned n name (stepped n name i w (speak r slots))
 sound_speak n name i r slots w apart low here at own h =
     let now : (w.member (name i)).phase ≡ Round i slots = at ∙ ap (λ (k : ℕ). Round k slots) own in
     let none : (s : List Slot) → estimate_of w (name i) ≡ Some s → ⊥ = λ s e. unsaid n name i s slots w low now h.rounds e in
     let link : ℕ → ℕ → List Message = told_all (among n name) w.link (name i) (Estimate i slots ∷ []) in
     let v : World = says link (name i) (Round (suc i) slots) slots w in
-    subst (λ (k : ℕ). Sound n name (stepped n name i w (speak k slots))) (sym own)
+    subst (λ (k : ℕ). Turned n name (stepped n name i w (speak k slots))) (sym own)
     (record {
       messages = messages_say n name (among n name) i (Round (suc i) slots) slots w low (not_gone (w.member (name i)) here) (λ bad. absurd (cc)) (λ bad. let no_phase : Round i slots ≡ Outside = sym now ∙ bad in cc) none h.messages;
       rounds = rounds_speak link n name i slots w apart low here now h.rounds;
@@ -105,7 +100,7 @@ away n name i r w lost left h a b e = grind (arith, nat_tests, h.knows.lost (nam
 sound_follow : (n : ℕ) (name : ℕ → ℕ) (i r : ℕ) (slots : List Slot) (w : World) → Apart n name → i < n → r < n → i ≢ r
     → stays (w.member (name i)) ≡ true → (w.member (name i)).phase ≡ Round r slots → Sound n name w
     → (estimate : Option (List Slot)) (absent : Bool) → (seen_by name i w r).estimate ≡ estimate
-    → ((seen_by name i w r).lost || (seen_by name i w r).left) ≡ absent → Sound n name (stepped n name i w (follow r slots estimate absent))
+    → ((seen_by name i w r).lost || (seen_by name i w r).left) ≡ absent → Turned n name (stepped n name i w (follow r slots estimate absent))
 sound_follow n name i r slots w apart low lower other here at h (Some new) absent e a =
     let said : estimate_of w (name r) ≡ Some new = h.messages.knows.estimates (name i) (name r) new e in
     sound_go n name i (Round (suc r) new) w here (λ bad. absurd (cc)) (λ bad. absurd (let outside : Round r slots ≡ Outside = sym at ∙ bad in cc))
@@ -120,7 +115,7 @@ sound_follow n name i r slots w apart low lower other here at h None true e a =
 sound_follow n name i r slots w apart low lower other here at h None false e a = sound_wait n name i (Round r slots) w here at h
 
 sound_decide : (n : ℕ) (name : ℕ → ℕ) (i r : ℕ) (slots : List Slot) (w : World) → Apart n name → i < n → n ≤ r → stays (w.member (name i)) ≡ true
-    → (w.member (name i)).phase ≡ Round r slots → Sound n name w → Sound n name (stepped n name i w (decide slots))
+    → (w.member (name i)).phase ≡ Round r slots → Sound n name w → Turned n name (stepped n name i w (decide slots))
 sound_decide n name i r slots w apart low all here at h =
     sound_go n name i (Decided slots) w here (λ bad. absurd (cc)) (λ bad. absurd (let outside : Round r slots ≡ Outside = sym at ∙ bad in cc))
     (λ s same. h.genuine.lists (name i) s (ap held at ∙ same))
@@ -139,17 +134,17 @@ is_other : (r i : ℕ) → (r == i) ≡ false → i ≢ r
 is_other r i e = grind (arith, nat_tests)
 
 turned : (n : ℕ) (name : ℕ → ℕ) (i : ℕ) (w : World) → Apart n name → i < n → stays (w.member (name i)) ≡ true → Sound n name w
-    → (phase : Phase) → (w.member (name i)).phase ≡ phase → Sound n name (stepped n name i w (turn n i (seen_by name i w) phase))
+    → (phase : Phase) → (w.member (name i)).phase ≡ phase → Turned n name (stepped n name i w (turn n i (seen_by name i w) phase))
 turned n name i w apart low here h Outside at = sound_wait n name i Outside w here at h
 turned n name i w apart low here h Voting at = sound_form n name i w low here at h (slots_of (seen_by name i w) n) refl
 turned n name i w apart low here h (Round r slots) at =
     cond_both {A = Turn} (nat_lt r n)
     (cond (r == i) (speak r slots) (follow r slots (seen_by name i w r).estimate ((seen_by name i w r).lost || (seen_by name i w r).left)))
-    (decide slots) (λ (t : Turn). Sound n name (stepped n name i w t))
+    (decide slots) (λ (t : Turn). Turned n name (stepped n name i w t))
     (λ below.
     cond_both {A = Turn} (r == i) (speak r slots)
     (follow r slots (seen_by name i w r).estimate ((seen_by name i w r).lost || (seen_by name i w r).left))
-    (λ (t : Turn). Sound n name (stepped n name i w t))
+    (λ (t : Turn). Turned n name (stepped n name i w t))
     (λ own. sound_speak n name i r slots w apart low here at (is_same r i own) h)
     (λ other.
     sound_follow n name i r slots w apart low (is_below r n below) (is_other r i other) here at h
@@ -159,7 +154,9 @@ turned n name i w apart low here h (Decided slots) at = sound_wait n name i (Dec
 
 pub sound_act : (n : ℕ) (name : ℕ → ℕ) (i : ℕ) (w : World) → Apart n name → i < n → stays (w.member (name i)) ≡ true
     → Sound n name w → Sound n name (acts n name i w)
-sound_act n name i w apart low here h = turned n name i w apart low here h (w.member (name i)).phase refl
+sound_act n name i w apart low here h =
+    let t : Turned n name (acts n name i w) = turned n name i w apart low here h (w.member (name i)).phase refl in
+    record { messages = t.messages; rounds = t.rounds; genuine = t.genuine; spoken = spoken_act n name i w apart low h.spoken }
 
 -- the same for what is under way
 caught_quiet : (n : ℕ) (name : ℕ → ℕ) (i : ℕ) (phase : Phase) (w : World) → Caught (among n name) w

@@ -12,7 +12,7 @@ use Rattle.fx_ballot.specs.Turn.{earliest, Phase, Outside, Voting, Round, Decide
 use Rattle.fx_ballot.specs.Seats.{Seated, at_seat, with_seat, seated, hears_seat, told_seat, seat_turn, noting, polled, spent, WholeEstimate, WholePhase, WholePoll, Whole}
 
 -- what is known of one seat changes, and its estimate is whole
-whole_with : (b : Seated) (k : ℕ) (h : Heard) → k < b.members → WholeEstimate b.members h.estimate → Whole b → Whole (with_seat k h b)
+pub whole_with : (b : Seated) (k : ℕ) (h : Heard) → k < b.members → WholeEstimate b.members h.estimate → Whole b → Whole (with_seat k h b)
 whole_with b k h low e w = record {
   seats = length-set b.heard k h ∙ w.seats;
   phase = w.phase;

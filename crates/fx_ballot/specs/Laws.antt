@@ -1,9 +1,10 @@
 -- What holds in every state that a list of moves leads to.
-use Rattle.std.specs.Prelude.{◌≡◌, ◌⊎◌, ◌<◌, ℕ, Bool, true, false, nat_lt, List, [], ◌∷◌, length, slice_get, Option, Some, None, IsSome}
+use Rattle.std.specs.Prelude.{◌≡◌, ◌≢◌, ◌⊎◌, ◌<◌, ℕ, Bool, true, false, nat_lt, List, [], ◌∷◌, length, slice_get, Option, Some, None, IsSome}
 use Rattle.fx_link.specs.declared.slot.Slot.{Slot}
 use Rattle.fx_link.specs.declared.slot.Slot.TheVariants.{Lost, Left}
-use Rattle.fx_ballot.specs.Turn.{Phase, Outside, Voting, Round, Decided, Message, Estimate}
-use Rattle.fx_ballot.specs.World.{World, stays, is_outside, among, Move, Enter, Act, Hear, Leave, Kill, Tell}
+use Rattle.fx_ballot.specs.declared.poll.Poll.TheVariants as poll
+use Rattle.fx_ballot.specs.Turn.{Phase, Outside, Voting, Round, Decided, Message, Vote, Estimate, Leaving}
+use Rattle.fx_ballot.specs.World.{World, stays, is_outside, among, turn_of, leaves, Move, Enter, Act, Hear, Leave, Kill, Tell, enabled, happens, run, start}
 
 -- the vote that a process cast, where it entered
 abbrev pub vote_of : World → ℕ → Option Slot
@@ -115,13 +116,67 @@ KillsIt name p (Leave i) = ⊥
 KillsIt name p (Kill i) = name i ≡ p
 KillsIt name p (Tell i j) = ⊥
 
--- it holds of some move of the list
-abbrev pub SomeMove : (Move → Type 0) → List Move → Type 0
-SomeMove P [] = ⊥
-SomeMove P (move ∷ moves) = P move ⊎ SomeMove P moves
+-- it holds of a move of the list that was enabled when it came, the first of them in the world given
+abbrev pub SomeMove : ℕ → (ℕ → ℕ) → (Move → Type 0) → World → List Move → Type 0
+SomeMove n name P w [] = ⊥
+SomeMove n name P w (move ∷ moves) = (P move × (enabled n name w move ≡ true)) ⊎ SomeMove n name P (happens n name w move) moves
 
--- a vote that counts as cast was cast by an entering, who is gone left by a leaving, who doesn't live was killed
-pub record Happened (name : ℕ → ℕ) (moves : List Move) (w : World) : Type 0 where
-  pub votes : (p : ℕ) (vote : Slot) → vote_of w p ≡ Some vote → SomeMove (EntersWith name p vote) moves
-  pub gone : (p : ℕ) → (w.member p).gone ≡ true → SomeMove (Leaves name p) moves
-  pub killed : (p : ℕ) → (w.member p).living ≡ false → SomeMove (KillsIt name p) moves
+-- a vote that counts as cast was cast by an entering, who is gone left by a leaving, who doesn't live was killed: by a move that
+-- was enabled
+pub record Happened (n : ℕ) (name : ℕ → ℕ) (moves : List Move) : Type 0 where
+  pub votes : (p : ℕ) (vote : Slot) → vote_of (run n name moves start) p ≡ Some vote → SomeMove n name (EntersWith name p vote) start moves
+  pub gone : (p : ℕ) → ((run n name moves start).member p).gone ≡ true → SomeMove n name (Leaves name p) start moves
+  pub killed : (p : ℕ) → ((run n name moves start).member p).living ≡ false → SomeMove n name (KillsIt name p) start moves
+
+-- every estimate that a process heard, or that is under way to it, has true slots
+abbrev pub OriginOfSaid : ℕ → (ℕ → ℕ) → World → Type 0
+OriginOfSaid n name w = (q r : ℕ) (slots : List Slot) → r < n → Reaches w name q r slots → TrueSlots n name w slots
+
+-- a member that is past its own round has sent its estimate
+abbrev pub PastHasSent : ℕ → (ℕ → ℕ) → World → Type 0
+PastHasSent n name w = (c : ℕ) → c < n → past c (w.member (name c)).phase ≡ true → IsSome (estimate_of w (name c))
+
+-- a process that cast no vote and said no estimate; it may have left
+pub record Wordless (w : World) (p : ℕ) : Type 0 where
+  pub phase : (w.member p).phase ≡ Outside
+  pub vote : vote_of w p ≡ None
+  pub estimate : estimate_of w p ≡ None
+
+-- each message of the list is a leaving
+abbrev pub OnlyLeavings : List Message → Type 0
+OnlyLeavings [] = Unit {0}
+OnlyLeavings (Vote slot ∷ xs) = ⊥
+OnlyLeavings (Estimate r slots ∷ xs) = ⊥
+OnlyLeavings (Leaving ∷ xs) = OnlyLeavings xs
+
+-- nothing but leavings of the process is under way, and nobody has heard a vote or an estimate of it
+pub record OnlyLeft (w : World) (p : ℕ) : Type 0 where
+  pub wordless : Wordless w p
+  pub under_way : (q : ℕ) → OnlyLeavings (w.link p q)
+  pub vote : (q : ℕ) → ((w.member q).heard p).vote ≡ None
+  pub estimate : (q : ℕ) → ((w.member q).heard p).estimate ≡ None
+
+-- a process without a seat says nothing, also once it has left
+abbrev pub StrangersOnlyLeave : ℕ → (ℕ → ℕ) → World → Type 0
+StrangersOnlyLeave n name w = (p : ℕ) (to : ℕ → Bool) → among n name p ≡ false → OnlyLeft w p × OnlyLeft (leaves to p w) p
+
+-- each member that stays has entered
+abbrev pub AllEntered : ℕ → (ℕ → ℕ) → World → Type 0
+AllEntered n name w = (c : ℕ) → c < n → stays (w.member (name c)) ≡ true → is_outside (w.member (name c)).phase ≡ false
+
+-- the process has heard all that the members sent it, and was told of each that was killed
+pub record Attentive (n : ℕ) (name : ℕ → ℕ) (w : World) (p : ℕ) : Type 0 where
+  pub clear : (c : ℕ) → c < n → name c ≢ p → w.link (name c) p ≡ []
+  pub told : (c : ℕ) → c < n → name c ≢ p → (w.member (name c)).living ≡ false → ((w.member p).heard (name c)).lost ≡ true
+
+-- the member at seat m stays; where it is in another's round, that member is past the round, or doesn't stay
+pub record Unblocked (n : ℕ) (name : ℕ → ℕ) (w : World) (m : ℕ) : Type 0 where
+  pub here : stays (w.member (name m)) ≡ true
+  pub round : (r : ℕ) (slots : List Slot) → (w.member (name m)).phase ≡ Round r slots → r < n → r ≢ m → stays (w.member (name r)) ≡ true
+      → past r (w.member (name r)).phase ≡ true
+
+-- once all have entered, a member that has heard all, was told of all and isn't held back by a lower one has a turn
+abbrev pub ClearLinksEnable : ℕ → (ℕ → ℕ) → World → Type 0
+ClearLinksEnable n name w =
+    (m : ℕ) → m < n → AllEntered n name w → Attentive n name w (name m) → Unblocked n name w m
+    → (turn_of n name m (w.member (name m))).poll ≢ poll.NotYet

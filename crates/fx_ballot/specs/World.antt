@@ -84,7 +84,7 @@ sent_by i poll.Moved = []
 sent_by i (poll.SendEstimate slots) = Estimate i slots ∷ []
 sent_by i (poll.Decided slots) = []
 
--- the links once process p sent something to all others that are meant
+-- the links once process p sent the messages to all others that are meant. Being told is of a loss alone; these are sent
 abbrev pub told_all : (ℕ → Bool) → (ℕ → ℕ → List Message) → ℕ → List Message → ℕ → ℕ → List Message
 told_all to link p sent a b = if (a == p) && (to b && not (b == p)) then link a b ++ sent else link a b
 
@@ -113,7 +113,7 @@ abbrev pub hears : ℕ → ℕ → List Message → World → World
 hears a b [] w = w
 hears a b (x ∷ rest) w = record { member = put w.member b (after a x (w.member b)); link = put_link w.link a b rest }
 
--- process p leaves, and its leaving stands on its links after all that it sent
+-- process p leaves: it is gone, and on each link from it a leaving comes last
 abbrev pub leaves : (ℕ → Bool) → ℕ → World → World
 leaves to p w = record { member = put w.member p (record (w.member p) { gone = true }); link = told_all to w.link p (Leaving ∷ []) }
 
@@ -134,19 +134,23 @@ pub data Move : Type 0 where
   Kill : ℕ → Move
   Tell : ℕ → ℕ → Move
 
--- one move in a world of n members, the process at each seat given; one that isn't enabled changes nothing
+-- the move is enabled in a world of n members, the process at each seat given. One hears nothing from an empty link
+abbrev pub enabled : ℕ → (ℕ → ℕ) → World → Move → Bool
+enabled n name w (Enter i vote) = nat_lt i n && (stays (w.member (name i)) && is_outside (w.member (name i)).phase)
+enabled n name w (Act i) = nat_lt i n && stays (w.member (name i))
+enabled n name w (Hear i j) = nat_lt i n && (nat_lt j n && (w.member (name j)).living)
+enabled n name w (Leave i) = nat_lt i n && (stays (w.member (name i)) && may_leave (w.member (name i)).phase)
+enabled n name w (Kill i) = nat_lt i n
+enabled n name w (Tell i j) = nat_lt i n && (nat_lt j n && (not (i == j) && not (w.member (name i)).living))
+
+-- one move; one that isn't enabled changes nothing
 abbrev pub happens : ℕ → (ℕ → ℕ) → World → Move → World
-happens n name w (Enter i vote) =
-    if nat_lt i n && (stays (w.member (name i)) && is_outside (w.member (name i)).phase) then enters (among n name) (name i) vote w else w
-happens n name w (Act i) = if nat_lt i n && stays (w.member (name i)) then acts n name i w else w
-happens n name w (Hear i j) =
-    if nat_lt i n && (nat_lt j n && (w.member (name j)).living) then hears (name i) (name j) (w.link (name i) (name j)) w else w
-happens n name w (Leave i) =
-    if nat_lt i n && (stays (w.member (name i)) && may_leave (w.member (name i)).phase)
-    then leaves (among n name) (name i) w else w
-happens n name w (Kill i) = if nat_lt i n then kills (name i) w else w
-happens n name w (Tell i j) =
-    if nat_lt i n && (nat_lt j n && (not (i == j) && not (w.member (name i)).living)) then tells (name i) (name j) w else w
+happens n name w (Enter i vote) = if enabled n name w (Enter i vote) then enters (among n name) (name i) vote w else w
+happens n name w (Act i) = if enabled n name w (Act i) then acts n name i w else w
+happens n name w (Hear i j) = if enabled n name w (Hear i j) then hears (name i) (name j) (w.link (name i) (name j)) w else w
+happens n name w (Leave i) = if enabled n name w (Leave i) then leaves (among n name) (name i) w else w
+happens n name w (Kill i) = if enabled n name w (Kill i) then kills (name i) w else w
+happens n name w (Tell i j) = if enabled n name w (Tell i j) then tells (name i) (name j) w else w
 
 -- one move after another
 abbrev pub run : ℕ → (ℕ → ℕ) → List Move → World → World

@@ -4,7 +4,7 @@ use Rattle.std.specs.Vec.{with_item}
 use Rattle.fx_agree.specs.contracts.ballot.Ballot.{the_view}
 use Rattle.fx_agree.specs.declared.stage.Stage.TheVariants as stage
 use Rattle.fx_ballot.proofs.Readings.{in_world_seated}
-use Rattle.fx_ballot.proofs.Wholes.{whole_after_entering}
+use Rattle.fx_agree.proofs.Keeping.{kept_entering}
 use Rattle.fx_agree.proofs.ballot.Ballot.new.Goals as goal
 
 pub returns-clause-has_entered : goal.returns-clause-has_entered
@@ -26,9 +26,9 @@ returns-clause-has_entered c =
     }))
     c.args.members c.args.me c.args.vote (grind (arith, elements)) c.requires.member
 
-pub returns-clause-has_one_slot_each : goal.returns-clause-has_one_slot_each
-returns-clause-has_one_slot_each c =
-    whole_after_entering
+pub invariant_of-result : goal.invariant_of-result
+invariant_of-result c =
+    kept_entering
     (the_view (record {
       members = c.args.members;
       me = c.args.me;
@@ -43,4 +43,4 @@ returns-clause-has_one_slot_each c =
           });
       failed = false;
     }))
-    c.args.members c.args.me c.args.vote (grind (arith, elements)) c.requires.member
+    c.args.members c.args.me c.args.vote (grind (arith, elements)) c.requires.member c.requires.few

@@ -1,0 +1,18 @@
+use Rattle.std.proofs.Common.{arith, subst}
+use Rattle.std.proofs.lemmas.Grind.{common_steps}
+use Rattle.fx_agree.specs.contracts.ballot.Ballot.{the_view}
+use Rattle.fx_agree.specs.Stages.{IsKept}
+use Rattle.fx_agree.proofs.Keeping.{kept_turned}
+use Rattle.fx_agree.proofs.ballot.Ballot.decide.Goals as goal
+
+pub invariant_of-self : goal.invariant_of-self
+invariant_of-self c =
+    kept_turned c.args.self.now
+    (the_view (record {
+      members = c.self.inside.members;
+      me = c.self.inside.me;
+      stage = c.close.new.self;
+      heard = c.self.inside.heard;
+      failed = c.self.inside.failed;
+    }))
+    (grind (arith, common_steps)) (subst IsKept c.self.view_is c.self.invariant)
