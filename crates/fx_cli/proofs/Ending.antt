@@ -2,6 +2,7 @@
 use Rattle.std.proofs.Common.{◌≡◌, ℕ, ◌<◌, ◌≤◌, inl, Bool, true, false, nat_lt, if◌then◌else◌, List, ◌++◌, length, Option, Some, None, is_some, Result, Ok, Err, refl, sym, ap, subst, ◌∙◌, arith, length-append}
 use Rattle.std.proofs.lemmas.List.{append-nil}
 use Rattle.fx_base.specs.declared.spot.Spot.{Spot}
+use Rattle.fx_io.specs.States.{SourceState, SinkState}
 use Rattle.fx_io.specs.Told.{Loses, IsAtEnd, Gains}
 use Rattle.fx_script.specs.declared.job.Job.{Job}
 use Rattle.fx_script.specs.Reading.{Refusal, reading, job_in}
@@ -15,25 +16,25 @@ use Rattle.fx_cli.specs.declared.status.Refusal.TheVariants.{NotBuilt}
 use Rattle.fx_cli.specs.declared.status.Status.{Status}
 use Rattle.fx_cli.specs.declared.status.Status.TheVariants.{Done, BadWords, BadJob, ReadFault, WriteFault, NoMemory}
 use Rattle.fx_cli.specs.Built.{first_unbuilt, plan_of}
-use Rattle.fx_cli.specs.Dues.{longest_job, mode_of, Input, WrongWords, TooLong, Whole, IsInput, input_in, input_of, due_to, due_to_reading, due_to_job, due_to_accepted, due_to_run}
-use Rattle.fx_cli.specs.Ends.{Settles, Ends, Takes, IsRun, DoesWhatIsAsked, IsUnbuilt, IsGiven, IsUnlessCut}
+use Rattle.fx_cli.specs.Dues.{longest_job, mode_of, Input, WrongWords, TooLong, Whole, IsInput, Due, input_in, input_of, due_to, due_to_reading, due_to_job, due_to_accepted, due_to_run}
+use Rattle.fx_cli.specs.Ends.{Settles, Ends, Takes, IsRun, IsCheck, DoesWhatIsAsked, IsUnbuilt, IsGiven, IsUnlessCut, IsDoneUnlessCut}
 use Rattle.fx_cli.specs.Plan.{journal_of}
 use Rattle.fx_cli.proofs.LegalJournal.{is_legal}
 
 -- what came in, and what is due to it, written whole or in part
-pub ends_of : (words : List (List ℕ)) (left left' written written' : Option (List ℕ)) (f g : ℕ) (input : Input) (s : Status) →
-    IsInput words left left' input → Settles (due_to input) written written' f g s → Ends words left left' written written' s
-ends_of words left left' written written' f g input Done is p = (input, is, p.0, p.1)
-ends_of words left left' written written' f g input BadWords is p = (input, is, p.0, p.1)
-ends_of words left left' written written' f g input (BadJob refusal spot) is p = (input, is, p.0, p.1)
-ends_of words left left' written written' f g input ReadFault is p = absurd p
-ends_of words left left' written written' f g input WriteFault is p = (input, is, p.0)
-ends_of words left left' written written' f g input NoMemory is p = inl (input, is, p.0)
+pub ends_of : (words : List (List ℕ)) (source source' : SourceState) (sink sink' : SinkState) (input : Input) (s : Status) →
+    IsInput words source.left source'.left input → Settles (due_to input) sink sink' s → Ends words source source' sink sink' s
+ends_of words source source' sink sink' input Done is p = (input, is, p.0, p.1.content)
+ends_of words source source' sink sink' input BadWords is p = (input, is, p.0, p.1.content)
+ends_of words source source' sink sink' input (BadJob refusal spot) is p = (input, is, p.0, p.1.content)
+ends_of words source source' sink sink' input ReadFault is p = absurd p
+ends_of words source source' sink sink' input WriteFault is p = (input, is, p.content)
+ends_of words source source' sink sink' input NoMemory is p = inl (input, is, p.content)
 
 -- a job that is read and refused for nothing is taken
-takes : (left left' : Option (List ℕ)) (text : List ℕ) (job : Job) → job_in text ≡ Ok job → refusal_of job ≡ None →
-    length text ≤ longest_job → Loses left left' text → IsAtEnd left' → Takes left left' job
-takes left left' text job is fine short read end = record {
+takes : (source source' : SourceState) (text : List ℕ) (job : Job) → job_in text ≡ Ok job → refusal_of job ≡ None →
+    length text ≤ longest_job → Loses source.left source'.left text → IsAtEnd source'.left → Takes source source' job
+takes source source' text job is fine short read end = record {
   text = text;
   read = read;
   at_end = end;
@@ -43,64 +44,53 @@ takes left left' text job is fine short read end = record {
 }
 
 -- a job that was done
-run_done : (left left' written written' : Option (List ℕ)) (job : Job) (o : Option Spot) → Takes left left' job → first_unbuilt job ≡ o →
-    Done ≡ (due_to_run job o).status → Gains written written' (due_to_run job o).output → IsRun left left' written written'
-run_done left left' written written' job None taken built done gained = record {
-  job = job;
-  journal = journal_of (plan_of job);
-  taken = taken;
-  built = built;
-  legal = is_legal (plan_of job);
-  gained = gained;
-}
-run_done left left' written written' job (Some spot) taken built done gained = absurd cc
+run_done : (sink sink' : SinkState) (job : Job) (o : Option Spot) → first_unbuilt job ≡ o →
+    Done ≡ (due_to_run job o).status → Gains sink.written sink'.written (due_to_run job o).output → IsRun job sink sink'
+run_done sink sink' job None built done gained = record { built = built; legal = is_legal (plan_of job); gained = gained }
+run_done sink sink' job (Some spot) built done gained = absurd cc
 
-accepted_done : (left left' written written' : Option (List ℕ)) (asked : Mode) (job : Job) → Takes left left' job →
-    Done ≡ (due_to_accepted asked job).status → Gains written written' (due_to_accepted asked job).output →
-    DoesWhatIsAsked (Some asked) left left' written written'
-accepted_done left left' written written' mode.Run job taken done gained =
-    run_done left left' written written' job (first_unbuilt job) taken refl done gained
-accepted_done left left' written written' mode.Check job taken done gained = record {
-  job = job;
-  taken = taken;
-  alone = canonical_alone job (taken.text, job, taken.spelled, refl);
-  gained = gained;
-}
+accepted_done : (source source' : SourceState) (sink sink' : SinkState) (asked : Mode) (job : Job) → Takes source source' job →
+    Done ≡ (due_to_accepted asked job).status → Gains sink.written sink'.written (due_to_accepted asked job).output →
+    DoesWhatIsAsked (Some asked) source source' sink sink'
+accepted_done source source' sink sink' mode.Run job taken done gained =
+    (job, taken, run_done sink sink' job (first_unbuilt job) refl done gained)
+accepted_done source source' sink sink' mode.Check job taken done gained =
+    (job, taken, record { alone = canonical_alone job (taken.text, job, taken.spelled, refl); gained = gained })
 
-job_done : (left left' written written' : Option (List ℕ)) (asked : Mode) (text : List ℕ) (job : Job) (o : Option Refused) →
-    job_in text ≡ Ok job → refusal_of job ≡ o → length text ≤ longest_job → Loses left left' text → IsAtEnd left' →
-    Done ≡ (due_to_job asked job o).status → Gains written written' (due_to_job asked job o).output →
-    DoesWhatIsAsked (Some asked) left left' written written'
-job_done left left' written written' asked text job None is fine short read end done gained =
-    accepted_done left left' written written' asked job (takes left left' text job is fine short read end) done gained
-job_done left left' written written' asked text job (Some refused) is fine short read end done gained = absurd cc
+job_done : (source source' : SourceState) (sink sink' : SinkState) (asked : Mode) (text : List ℕ) (job : Job) (o : Option Refused) →
+    job_in text ≡ Ok job → refusal_of job ≡ o → length text ≤ longest_job → Loses source.left source'.left text → IsAtEnd source'.left →
+    Done ≡ (due_to_job asked job o).status → Gains sink.written sink'.written (due_to_job asked job o).output →
+    DoesWhatIsAsked (Some asked) source source' sink sink'
+job_done source source' sink sink' asked text job None is fine short read end done gained =
+    accepted_done source source' sink sink' asked job (takes source source' text job is fine short read end) done gained
+job_done source source' sink sink' asked text job (Some refused) is fine short read end done gained = absurd cc
 
-text_done : (left left' written written' : Option (List ℕ)) (asked : Mode) (text : List ℕ) (r : Result Job Refusal) →
-    job_in text ≡ r → length text ≤ longest_job → Loses left left' text → IsAtEnd left' →
-    Done ≡ (due_to_reading asked r).status → Gains written written' (due_to_reading asked r).output →
-    DoesWhatIsAsked (Some asked) left left' written written'
-text_done left left' written written' asked text (Ok job) is short read end done gained =
-    job_done left left' written written' asked text job (refusal_of job) is refl short read end done gained
-text_done left left' written written' asked text (Err r) is short read end done gained = absurd cc
+text_done : (source source' : SourceState) (sink sink' : SinkState) (asked : Mode) (text : List ℕ) (r : Result Job Refusal) →
+    job_in text ≡ r → length text ≤ longest_job → Loses source.left source'.left text → IsAtEnd source'.left →
+    Done ≡ (due_to_reading asked r).status → Gains sink.written sink'.written (due_to_reading asked r).output →
+    DoesWhatIsAsked (Some asked) source source' sink sink'
+text_done source source' sink sink' asked text (Ok job) is short read end done gained =
+    job_done source source' sink sink' asked text job (refusal_of job) is refl short read end done gained
+text_done source source' sink sink' asked text (Err r) is short read end done gained = absurd cc
 
-input_done : (words : List (List ℕ)) (left left' written written' : Option (List ℕ)) (input : Input) →
-    IsInput words left left' input → Done ≡ (due_to input).status → Gains written written' (due_to input).output →
-    DoesWhatIsAsked (mode_of words) left left' written written'
-input_done words left left' written written' WrongWords is done gained = absurd cc
-input_done words left left' written written' TooLong is done gained = absurd cc
-input_done words left left' written written' (Whole asked text) is done gained =
-    subst (λ (o : Option Mode). DoesWhatIsAsked o left left' written written') (sym is.0)
-    (text_done left left' written written' asked text (job_in text) refl is.1 is.2 is.3 done gained)
+input_done : (words : List (List ℕ)) (source source' : SourceState) (sink sink' : SinkState) (input : Input) →
+    IsInput words source.left source'.left input → Done ≡ (due_to input).status → Gains sink.written sink'.written (due_to input).output →
+    DoesWhatIsAsked (mode_of words) source source' sink sink'
+input_done words source source' sink sink' WrongWords is done gained = absurd cc
+input_done words source source' sink sink' TooLong is done gained = absurd cc
+input_done words source source' sink sink' (Whole asked text) is done gained =
+    subst (λ (o : Option Mode). DoesWhatIsAsked o source source' sink sink') (sym is.0)
+    (text_done source source' sink sink' asked text (job_in text) refl is.1 is.2 is.3 done gained)
 
 -- a call that is done has done what its words ask for
-pub is_done : (words : List (List ℕ)) (left left' written written' : Option (List ℕ)) (s : Status) →
-    Ends words left left' written written' s → s ≡ Done → DoesWhatIsAsked (mode_of words) left left' written written'
-is_done words left left' written written' Done e is = input_done words left left' written written' e.0 e.1 e.2 e.3
-is_done words left left' written written' BadWords e is = absurd cc
-is_done words left left' written written' (BadJob refusal spot) e is = absurd cc
-is_done words left left' written written' ReadFault e is = absurd cc
-is_done words left left' written written' WriteFault e is = absurd cc
-is_done words left left' written written' NoMemory e is = absurd cc
+pub is_done : (words : List (List ℕ)) (source source' : SourceState) (sink sink' : SinkState) (s : Status) →
+    Ends words source source' sink sink' s → s ≡ Done → DoesWhatIsAsked (mode_of words) source source' sink sink'
+is_done words source source' sink sink' Done e is = input_done words source source' sink sink' e.0 e.1 e.2 e.3
+is_done words source source' sink sink' BadWords e is = absurd cc
+is_done words source source' sink sink' (BadJob refusal spot) e is = absurd cc
+is_done words source source' sink sink' ReadFault e is = absurd cc
+is_done words source source' sink sink' WriteFault e is = absurd cc
+is_done words source source' sink sink' NoMemory e is = absurd cc
 
 -- a job that is refused since a line of it isn't built yet
 run_unbuilt : (job : Job) (o : Option Spot) (spot : Spot) → first_unbuilt job ≡ o → BadJob NotBuilt spot ≡ (due_to_run job o).status →
@@ -108,41 +98,41 @@ run_unbuilt : (job : Job) (o : Option Spot) (spot : Spot) → first_unbuilt job 
 run_unbuilt job None spot is e = absurd cc
 run_unbuilt job (Some first) spot is e = cc
 
-accepted_unbuilt : (words : List (List ℕ)) (left left' : Option (List ℕ)) (asked : Mode) (job : Job) (spot : Spot) → mode_of words ≡ Some asked →
-    Takes left left' job → BadJob NotBuilt spot ≡ (due_to_accepted asked job).status → IsUnbuilt words left left' spot
-accepted_unbuilt words left left' mode.Run job spot named taken e =
+accepted_unbuilt : (words : List (List ℕ)) (source source' : SourceState) (asked : Mode) (job : Job) (spot : Spot) → mode_of words ≡ Some asked →
+    Takes source source' job → BadJob NotBuilt spot ≡ (due_to_accepted asked job).status → IsUnbuilt words source source' spot
+accepted_unbuilt words source source' mode.Run job spot named taken e =
     record { job = job; asked = named; taken = taken; first = run_unbuilt job (first_unbuilt job) spot refl e }
-accepted_unbuilt words left left' mode.Check job spot named taken e = absurd cc
+accepted_unbuilt words source source' mode.Check job spot named taken e = absurd cc
 
-job_unbuilt : (words : List (List ℕ)) (left left' : Option (List ℕ)) (asked : Mode) (text : List ℕ) (job : Job) (o : Option Refused) (spot : Spot) →
-    mode_of words ≡ Some asked → job_in text ≡ Ok job → refusal_of job ≡ o → length text ≤ longest_job → Loses left left' text → IsAtEnd left' →
-    BadJob NotBuilt spot ≡ (due_to_job asked job o).status → IsUnbuilt words left left' spot
-job_unbuilt words left left' asked text job None spot named is fine short read end e =
-    accepted_unbuilt words left left' asked job spot named (takes left left' text job is fine short read end) e
-job_unbuilt words left left' asked text job (Some refused) spot named is fine short read end e = absurd cc
+job_unbuilt : (words : List (List ℕ)) (source source' : SourceState) (asked : Mode) (text : List ℕ) (job : Job) (o : Option Refused) (spot : Spot) →
+    mode_of words ≡ Some asked → job_in text ≡ Ok job → refusal_of job ≡ o → length text ≤ longest_job → Loses source.left source'.left text → IsAtEnd source'.left →
+    BadJob NotBuilt spot ≡ (due_to_job asked job o).status → IsUnbuilt words source source' spot
+job_unbuilt words source source' asked text job None spot named is fine short read end e =
+    accepted_unbuilt words source source' asked job spot named (takes source source' text job is fine short read end) e
+job_unbuilt words source source' asked text job (Some refused) spot named is fine short read end e = absurd cc
 
-text_unbuilt : (words : List (List ℕ)) (left left' : Option (List ℕ)) (asked : Mode) (text : List ℕ) (r : Result Job Refusal) (spot : Spot) →
-    mode_of words ≡ Some asked → job_in text ≡ r → length text ≤ longest_job → Loses left left' text → IsAtEnd left' →
-    BadJob NotBuilt spot ≡ (due_to_reading asked r).status → IsUnbuilt words left left' spot
-text_unbuilt words left left' asked text (Ok job) spot named is short read end e =
-    job_unbuilt words left left' asked text job (refusal_of job) spot named is refl short read end e
-text_unbuilt words left left' asked text (Err r) spot named is short read end e = absurd cc
+text_unbuilt : (words : List (List ℕ)) (source source' : SourceState) (asked : Mode) (text : List ℕ) (r : Result Job Refusal) (spot : Spot) →
+    mode_of words ≡ Some asked → job_in text ≡ r → length text ≤ longest_job → Loses source.left source'.left text → IsAtEnd source'.left →
+    BadJob NotBuilt spot ≡ (due_to_reading asked r).status → IsUnbuilt words source source' spot
+text_unbuilt words source source' asked text (Ok job) spot named is short read end e =
+    job_unbuilt words source source' asked text job (refusal_of job) spot named is refl short read end e
+text_unbuilt words source source' asked text (Err r) spot named is short read end e = absurd cc
 
-input_unbuilt : (words : List (List ℕ)) (left left' : Option (List ℕ)) (input : Input) (spot : Spot) →
-    IsInput words left left' input → BadJob NotBuilt spot ≡ (due_to input).status → IsUnbuilt words left left' spot
-input_unbuilt words left left' WrongWords spot is e = absurd cc
-input_unbuilt words left left' TooLong spot is e = absurd cc
-input_unbuilt words left left' (Whole asked text) spot is e =
-    text_unbuilt words left left' asked text (job_in text) spot is.0 refl is.1 is.2 is.3 e
+input_unbuilt : (words : List (List ℕ)) (source source' : SourceState) (input : Input) (spot : Spot) →
+    IsInput words source.left source'.left input → BadJob NotBuilt spot ≡ (due_to input).status → IsUnbuilt words source source' spot
+input_unbuilt words source source' WrongWords spot is e = absurd cc
+input_unbuilt words source source' TooLong spot is e = absurd cc
+input_unbuilt words source source' (Whole asked text) spot is e =
+    text_unbuilt words source source' asked text (job_in text) spot is.0 refl is.1 is.2 is.3 e
 
-pub is_unbuilt : (words : List (List ℕ)) (left left' written written' : Option (List ℕ)) (s : Status) →
-    Ends words left left' written written' s → (spot : Spot) → s ≡ BadJob NotBuilt spot → IsUnbuilt words left left' spot
-is_unbuilt words left left' written written' Done e spot is = absurd cc
-is_unbuilt words left left' written written' BadWords e spot is = absurd cc
-is_unbuilt words left left' written written' (BadJob refusal at) e spot is = input_unbuilt words left left' e.0 spot e.1 (sym is ∙ e.2)
-is_unbuilt words left left' written written' ReadFault e spot is = absurd cc
-is_unbuilt words left left' written written' WriteFault e spot is = absurd cc
-is_unbuilt words left left' written written' NoMemory e spot is = absurd cc
+pub is_unbuilt : (words : List (List ℕ)) (source source' : SourceState) (sink sink' : SinkState) (s : Status) →
+    Ends words source source' sink sink' s → (spot : Spot) → s ≡ BadJob NotBuilt spot → IsUnbuilt words source source' spot
+is_unbuilt words source source' sink sink' Done e spot is = absurd cc
+is_unbuilt words source source' sink sink' BadWords e spot is = absurd cc
+is_unbuilt words source source' sink sink' (BadJob refusal at) e spot is = input_unbuilt words source source' e.0 spot e.1 (sym is ∙ e.2)
+is_unbuilt words source source' sink sink' ReadFault e spot is = absurd cc
+is_unbuilt words source source' sink sink' WriteFault e spot is = absurd cc
+is_unbuilt words source source' sink sink' NoMemory e spot is = absurd cc
 
 -- no more than the limit, and more
 not_more : (n : ℕ) → n ≤ longest_job → nat_lt longest_job n ≡ false
@@ -183,41 +173,77 @@ input_is words left left' held (Whole asked text) e is =
     let short = subst (λ (l : List ℕ). length l ≤ longest_job) same is.1 in
     short_input words asked held is.0 short ∙ ap (Whole asked) (sym same)
 
--- the status is the one that is due, unless the call was cut short
-abbrev AsDue : List (List ℕ) → List ℕ → Status → Type 0
-AsDue words held s = IsUnlessCut (due_to (input_of words held)).status s
+-- what came in is what is due to the words and to what the source held
+due_is : (words : List (List ℕ)) (left left' : Option (List ℕ)) (held : List ℕ) (input : Input) →
+    left ≡ Some held → IsInput words left left' input → due_to input ≡ due_to (input_of words held)
+due_is words left left' held input told is = ap due_to (sym (input_is words left left' held input told is))
 
-due_is : (words : List (List ℕ)) (left left' : Option (List ℕ)) (held : List ℕ) (input : Input) (s : Status) →
+status_is : (words : List (List ℕ)) (left left' : Option (List ℕ)) (held : List ℕ) (input : Input) (s : Status) →
     left ≡ Some held → IsInput words left left' input → s ≡ (due_to input).status → s ≡ (due_to (input_of words held)).status
-due_is words left left' held input s told is e = e ∙ ap (λ (i : Input). (due_to i).status) (sym (input_is words left left' held input told is))
+status_is words left left' held input s told is e = e ∙ ap (λ (d : Due). d.status) (due_is words left left' held input told is)
 
-pub is_due : (words : List (List ℕ)) (left left' written written' : Option (List ℕ)) (s : Status) →
-    Ends words left left' written written' s → (held : List ℕ) → left ≡ Some held → IsUnlessCut (due_to (input_of words held)).status s
-is_due words left left' written written' Done e held told = due_is words left left' held e.0 Done told e.1 e.2
-is_due words left left' written written' BadWords e held told = due_is words left left' held e.0 BadWords told e.1 e.2
-is_due words left left' written written' (BadJob refusal spot) e held told = due_is words left left' held e.0 (BadJob refusal spot) told e.1 e.2
-is_due words left left' written written' ReadFault e held told = tt
-is_due words left left' written written' WriteFault e held told = tt
-is_due words left left' written written' NoMemory e held told = tt
+-- the status is the one that is due, unless the call was cut short
+pub is_due : (words : List (List ℕ)) (source source' : SourceState) (sink sink' : SinkState) (s : Status) →
+    Ends words source source' sink sink' s → (held : List ℕ) → source.left ≡ Some held → IsUnlessCut (due_to (input_of words held)).status s
+is_due words source source' sink sink' Done e held told = status_is words source.left source'.left held e.0 Done told e.1 e.2
+is_due words source source' sink sink' BadWords e held told = status_is words source.left source'.left held e.0 BadWords told e.1 e.2
+is_due words source source' sink sink' (BadJob refusal spot) e held told = status_is words source.left source'.left held e.0 (BadJob refusal spot) told e.1 e.2
+is_due words source source' sink sink' ReadFault e held told = tt
+is_due words source source' sink sink' WriteFault e held told = tt
+is_due words source source' sink sink' NoMemory e held told = tt
 
 -- what is due to an accepted job is due where it is given
-given_due : (asked : Mode) (words : List (List ℕ)) (left : Option (List ℕ)) (job : Job) (given : IsGiven asked words left job) →
-    (due_to (input_of words given.text)).status ≡ (due_to_accepted asked job).status
-given_due asked words left job given =
-    ap (λ (i : Input). (due_to i).status) (short_input words asked given.text given.named given.short)
-    ∙ ap (λ (r : Result Job Refusal). (due_to_reading asked r).status) (is_read given.text job given.spelled)
-    ∙ ap (λ (o : Option Refused). (due_to_job asked job o).status) (none_if_accepted job given.accepted)
+given_due : (asked : Mode) (words : List (List ℕ)) (source : SourceState) (job : Job) (given : IsGiven asked words source job) →
+    due_to (input_of words given.text) ≡ due_to_accepted asked job
+given_due asked words source job given =
+    ap due_to (short_input words asked given.text given.named given.short)
+    ∙ ap (due_to_reading asked) (is_read given.text job given.spelled)
+    ∙ ap (due_to_job asked job) (none_if_accepted job given.accepted)
 
-given_done : (asked : Mode) (words : List (List ℕ)) (left left' written written' : Option (List ℕ)) (s : Status) →
-    Ends words left left' written written' s → (job : Job) → IsGiven asked words left job → (due_to_accepted asked job).status ≡ Done → IsUnlessCut Done s
-given_done asked words left left' written written' s e job given done =
-    subst (λ (due : Status). IsUnlessCut due s) (given_due asked words left job given ∙ done) (is_due words left left' written written' s e given.text given.told)
+given_is : (asked : Mode) (words : List (List ℕ)) (source source' : SourceState) (job : Job) (given : IsGiven asked words source job) (input : Input) →
+    IsInput words source.left source'.left input → due_to input ≡ due_to_accepted asked job
+given_is asked words source source' job given input is =
+    due_is words source.left source'.left given.text input given.told is ∙ given_due asked words source job given
 
-pub is_ran : (words : List (List ℕ)) (left left' written written' : Option (List ℕ)) (s : Status) →
-    Ends words left left' written written' s → (job : Job) → IsGiven mode.Run words left job → first_unbuilt job ≡ None → IsUnlessCut Done s
-is_ran words left left' written written' s e job given built =
-    given_done mode.Run words left left' written written' s e job given (ap (λ (o : Option Spot). (due_to_run job o).status) built)
+-- another status than the one that is due
+other_status : (d d' : Due) (s s' : Status) → d ≡ d' → s ≡ d.status → d'.status ≡ s' → s ≡ s'
+other_status d d' s s' same e is = e ∙ ap (λ (x : Due). x.status) same ∙ is
 
-pub is_printed : (words : List (List ℕ)) (left left' written written' : Option (List ℕ)) (s : Status) →
-    Ends words left left' written written' s → (job : Job) → IsGiven mode.Check words left job → IsUnlessCut Done s
-is_printed words left left' written written' s e job given = given_done mode.Check words left left' written written' s e job given refl
+not_bad_words : BadWords ≡ Done → ⊥
+not_bad_words e = cc
+
+not_bad_job : (refusal : Rattle.fx_cli.specs.declared.status.Refusal.Refusal) (spot : Spot) → BadJob refusal spot ≡ Done → ⊥
+not_bad_job refusal spot e = cc
+
+-- a job that is given and can be run is run
+pub is_ran : (words : List (List ℕ)) (source source' : SourceState) (sink sink' : SinkState) (s : Status) → Ends words source source' sink sink' s →
+    (job : Job) → IsGiven mode.Run words source job → first_unbuilt job ≡ None → IsDoneUnlessCut (IsRun job sink sink') s
+is_ran words source source' sink sink' Done e job given built =
+    let due = given_is mode.Run words source source' job given e.0 e.1 ∙ ap (due_to_run job) built in
+    record {
+      built = built;
+      legal = is_legal (plan_of job);
+      gained = subst (λ (d : Due). Gains sink.written sink'.written d.output) due e.3;
+    }
+is_ran words source source' sink sink' BadWords e job given built =
+    not_bad_words (other_status _ _ _ _ (given_is mode.Run words source source' job given e.0 e.1 ∙ ap (due_to_run job) built) e.2 refl)
+is_ran words source source' sink sink' (BadJob refusal spot) e job given built =
+    not_bad_job refusal spot (other_status _ _ _ _ (given_is mode.Run words source source' job given e.0 e.1 ∙ ap (due_to_run job) built) e.2 refl)
+is_ran words source source' sink sink' ReadFault e job given built = tt
+is_ran words source source' sink sink' WriteFault e job given built = tt
+is_ran words source source' sink sink' NoMemory e job given built = tt
+
+-- a job that is given is printed
+pub is_printed : (words : List (List ℕ)) (source source' : SourceState) (sink sink' : SinkState) (s : Status) → Ends words source source' sink sink' s →
+    (job : Job) → IsGiven mode.Check words source job → IsDoneUnlessCut (IsCheck job sink sink') s
+is_printed words source source' sink sink' Done e job given = record {
+  alone = canonical_alone job (given.text, job, given.spelled, refl);
+  gained = subst (λ (d : Due). Gains sink.written sink'.written d.output) (given_is mode.Check words source source' job given e.0 e.1) e.3;
+}
+is_printed words source source' sink sink' BadWords e job given =
+    not_bad_words (other_status _ _ _ _ (given_is mode.Check words source source' job given e.0 e.1) e.2 refl)
+is_printed words source source' sink sink' (BadJob refusal spot) e job given =
+    not_bad_job refusal spot (other_status _ _ _ _ (given_is mode.Check words source source' job given e.0 e.1) e.2 refl)
+is_printed words source source' sink sink' ReadFault e job given = tt
+is_printed words source source' sink sink' WriteFault e job given = tt
+is_printed words source source' sink sink' NoMemory e job given = tt

@@ -1,40 +1,40 @@
 ghost use Rattle.std.specs.Prelude.{◌≡◌, ◌∷◌, [], IfOk, map, pos, replicate};
 ghost use Rattle.fx_cli.specs.Built.{named_of, plan_of, printed_by, printed_in};
-ghost use Rattle.fx_cli.specs.Ends.{Puts};
+ghost use Rattle.fx_io.specs.Writing.{Puts};
 ghost use Rattle.fx_cli.specs.Items.{text_of};
 ghost use Rattle.fx_cli.specs.Plan.{closing, journal_of, length_in, opening, print_of};
 
 use crate::item::{Item, JoinKind};
-use crate::put::{Cut, put_items};
+use crate::put::put_items;
 use fx_base::{Bytes, Elems, Epoch, Ident, NoMemory, Place, Proc, Role, Seats, Seq};
-use fx_io::Sink;
+use fx_io::{PutEnd, Sink};
 use fx_script::{Decl, Job, Stmt};
 use std::alloc::Global;
 
 /// Writes the journal of a job of one rank whose body prints arrays.
-pub fn write_journal<K: Sink>(alloc: Global, job: &Job, sink: &mut K) -> Result<(), Cut>
-    ensures { Puts (K.written sink.old) (K.written sink.new) (K.faults sink.old) (K.faults sink.new) (text_of (journal_of (plan_of job.now))) result }
+pub fn write_journal<K: Sink>(alloc: Global, job: &Job, sink: &mut K) -> Result<(), PutEnd>
+    ensures { Puts (K.state sink.old) (K.state sink.new) (text_of (journal_of (plan_of job.now))) result }
 {
     put_opening(alloc, sink)?;
     put_body(alloc, job, sink)?;
     put_closing(alloc, sink)
 }
 
-fn put_body<K: Sink>(alloc: Global, job: &Job, sink: &mut K) -> Result<(), Cut>
-    ensures { Puts (K.written sink.old) (K.written sink.new) (K.faults sink.old) (K.faults sink.new) (text_of (map (print_of (map named_of job.now.names)) (printed_in job.now.body))) result }
+fn put_body<K: Sink>(alloc: Global, job: &Job, sink: &mut K) -> Result<(), PutEnd>
+    ensures { Puts (K.state sink.old) (K.state sink.new) (text_of (map (print_of (map named_of job.now.names)) (printed_in job.now.body))) result }
 {
     put_prints(alloc, job.names.as_slice(), job.body.as_slice(), sink)
 }
 
-fn put_opening<K: Sink>(alloc: Global, sink: &mut K) -> Result<(), Cut>
-    ensures { Puts (K.written sink.old) (K.written sink.new) (K.faults sink.old) (K.faults sink.new) (text_of opening) result }
+fn put_opening<K: Sink>(alloc: Global, sink: &mut K) -> Result<(), PutEnd>
+    ensures { Puts (K.state sink.old) (K.state sink.new) (text_of opening) result }
 {
     let first = opening(alloc)?;
     put_items(alloc, first.as_slice(), sink)
 }
 
-fn put_closing<K: Sink>(alloc: Global, sink: &mut K) -> Result<(), Cut>
-    ensures { Puts (K.written sink.old) (K.written sink.new) (K.faults sink.old) (K.faults sink.new) (text_of closing) result }
+fn put_closing<K: Sink>(alloc: Global, sink: &mut K) -> Result<(), PutEnd>
+    ensures { Puts (K.state sink.old) (K.state sink.new) (text_of closing) result }
 {
     let last = closing(alloc)?;
     put_items(alloc, last.as_slice(), sink)
@@ -45,8 +45,8 @@ fn put_prints<K: Sink>(
     names: &[Decl],
     body: &[Stmt],
     sink: &mut K,
-) -> Result<(), Cut>
-    ensures { Puts (K.written sink.old) (K.written sink.new) (K.faults sink.old) (K.faults sink.new) (text_of (map (print_of (map named_of names.now)) (printed_in body.now))) result }
+) -> Result<(), PutEnd>
+    ensures { Puts (K.state sink.old) (K.state sink.new) (text_of (map (print_of (map named_of names.now)) (printed_in body.now))) result }
 {
     for statement in body {
         put_stmt(alloc, names, statement, sink)?;
@@ -59,8 +59,8 @@ fn put_stmt<K: Sink>(
     names: &[Decl],
     statement: &Stmt,
     sink: &mut K,
-) -> Result<(), Cut>
-    ensures { Puts (K.written sink.old) (K.written sink.new) (K.faults sink.old) (K.faults sink.new) (text_of (map (print_of (map named_of names.now)) (printed_by statement.now))) result }
+) -> Result<(), PutEnd>
+    ensures { Puts (K.state sink.old) (K.state sink.new) (text_of (map (print_of (map named_of names.now)) (printed_by statement.now))) result }
 {
     match statement {
         Stmt::Print { name, .. } => {

@@ -220,3 +220,16 @@ fn a_source_fails_at_its_second_call(rt: HostRuntime) -> Result<(), Fail> {
     assert_eq!(rt; sink.written().len(), 0);
     Ok(())
 }
+
+#[test]
+fn a_source_is_not_asked_behind_its_end(rt: HostRuntime) -> Result<(), Fail> {
+    let alloc = rt.alloc();
+    let words = words_of(alloc, "run")?;
+    // The first call gives all that there is, the second is the end.
+    let mut source = MemSource::new(bytes_of(alloc, TWO_PRINTS)?, 4096, numbers(alloc, 3)?);
+    let mut sink = SureSink::new(alloc);
+    let ended = fenix(alloc, words.as_slice(), &mut source, &mut sink);
+    assert_eq!(rt; ended, Status::Done);
+    assert_eq!(rt; sink.written().as_slice(), JOURNAL.as_bytes());
+    Ok(())
+}

@@ -6,17 +6,16 @@ ghost use Rattle.fx_script.specs.Reading.{job_in};
 ghost use Rattle.fx_cli.specs.Answers.{refusal_line};
 ghost use Rattle.fx_cli.specs.Built.{first_unbuilt};
 ghost use Rattle.fx_cli.specs.Dues.{WrongWords, due_refusal, due_to, due_to_accepted, due_to_job, due_to_reading, due_to_run, input_of, longest_job, mode_of};
-ghost use Rattle.fx_cli.specs.Ends.{DoesWhatIsAsked, Ends, IsGiven, IsUnbuilt, IsUnlessCut, Settles, settled};
+ghost use Rattle.fx_cli.specs.Ends.{DoesWhatIsAsked, Ends, IsCheck, IsDoneUnlessCut, IsGiven, IsRun, IsUnbuilt, IsUnlessCut, Settles, settled};
 
 use crate::built::first_unbuilt;
 use crate::canon::write_canonical;
 use crate::mode::{Mode, mode_of};
-use crate::put::{Cut, put_line};
 use crate::run::write_journal;
 use crate::status::{Refusal, Status, reason_of};
 use fx_base::{Bytes, NoMemory, Spot};
 use fx_check::{CheckJob, check_job};
-use fx_io::{Sink, Source, WholeEnd, read_whole};
+use fx_io::{PutEnd, Sink, Source, WholeEnd, read_whole, write_whole};
 use fx_script::{Job, ReadJob, read_job};
 use fx_text::push_number;
 use std::alloc::Global;
@@ -36,32 +35,33 @@ pub fn fenix<S: Source, K: Sink>(
     sink: &mut K,
 ) -> Status
     // What was read and written, by the status.
-    ensures ends { Ends (map string_bytes words.now) (S.left source.old) (S.left source.new) (K.written sink.old) (K.written sink.new) result }
-    // Done: the source held a text of an accepted job. In mode run each of its lines can be run, and the text of a legal
-    // journal of it was written; in mode check its canonical text was.
-    ensures done { result ≡ Status.Done → DoesWhatIsAsked (mode_of (map string_bytes words.now)) (S.left source.old) (S.left source.new) (K.written sink.old) (K.written sink.new) }
+    ensures ends { Ends (map string_bytes words.now) (S.state source.old) (S.state source.new) (K.state sink.old) (K.state sink.new) result }
+    // Done: a text of an accepted job was read. In mode run each of its lines can be run, and exactly the text of its one
+    // journal was written, which is legal; in mode check its canonical text was.
+    ensures done { result ≡ Status.Done → DoesWhatIsAsked (mode_of (map string_bytes words.now)) (S.state source.old) (S.state source.new) (K.state sink.old) (K.state sink.new) }
     // Not built: in mode run alone, and the source held a text of an accepted job whose first line that can't be run is there.
-    ensures not_built_is_accepted { (spot : Spot) → result ≡ Status.BadJob Refusal.NotBuilt spot → IsUnbuilt (map string_bytes words.now) (S.left source.old) (S.left source.new) spot }
+    ensures not_built_is_accepted { (spot : Spot) → result ≡ Status.BadJob Refusal.NotBuilt spot → IsUnbuilt (map string_bytes words.now) (S.state source.old) (S.state source.new) spot }
     // Where the source tells what it holds, that and the words fix the status, unless a fault or want of memory cuts the call short.
-    ensures status_is_due { (held : List ℕ) → S.left source.old ≡ Some held → IsUnlessCut (due_to (input_of (map string_bytes words.now) held)).status result }
-    // A text that spells an accepted job each line of which can be run is answered by its run, unless the call is cut short.
-    ensures jobs_are_run { (job : Job) → IsGiven Mode.Run (map string_bytes words.now) (S.left source.old) job → first_unbuilt job ≡ None → IsUnlessCut Status.Done result }
-    // A text that spells an accepted job is answered by its canonical text, unless the call is cut short.
-    ensures accepted_jobs_are_printed { (job : Job) → IsGiven Mode.Check (map string_bytes words.now) (S.left source.old) job → IsUnlessCut Status.Done result }
-    ensures read_fault_only_if_count_rose { result ≡ Status.ReadFault → Rose (S.faults source.old) (S.faults source.new) }
-    ensures write_fault_only_if_count_rose { result ≡ Status.WriteFault → Rose (K.faults sink.old) (K.faults sink.new) }
-    ensures source_count_never_falls { S.faults source.old ≤ S.faults source.new }
-    ensures sink_count_never_falls { K.faults sink.old ≤ K.faults sink.new }
+    ensures status_is_due { (held : List ℕ) → (S.state source.old).left ≡ Some held → IsUnlessCut (due_to (input_of (map string_bytes words.now) held)).status result }
+    // The source tells a text that spells an accepted job each line of which can be run, and the words ask for its run: the
+    // call is done, unless it is cut short, and exactly the text of the job's one journal was written, which is legal.
+    ensures jobs_are_run { (job : Job) → IsGiven Mode.Run (map string_bytes words.now) (S.state source.old) job → first_unbuilt job ≡ None → IsDoneUnlessCut (IsRun job (K.state sink.old) (K.state sink.new)) result }
+    // The same with the word check: exactly the canonical text of the job was written.
+    ensures accepted_jobs_are_printed { (job : Job) → IsGiven Mode.Check (map string_bytes words.now) (S.state source.old) job → IsDoneUnlessCut (IsCheck job (K.state sink.old) (K.state sink.new)) result }
+    ensures read_fault_only_if_count_rose { result ≡ Status.ReadFault → Rose (S.state source.old).faults (S.state source.new).faults }
+    ensures write_fault_only_if_count_rose { result ≡ Status.WriteFault → Rose (K.state sink.old).faults (K.state sink.new).faults }
+    ensures source_count_never_falls { (S.state source.old).faults ≤ (S.state source.new).faults }
+    ensures sink_count_never_falls { (K.state sink.old).faults ≤ (K.state sink.new).faults }
 {
     call(alloc, words, source, sink)
 }
 
 fn call<S: Source, K: Sink>(alloc: Global, words: &[String], source: &mut S, sink: &mut K) -> Status
-    ensures ends { Ends (map string_bytes words.now) (S.left source.old) (S.left source.new) (K.written sink.old) (K.written sink.new) result }
-    ensures read_fault_only_if_count_rose { result ≡ Status.ReadFault → Rose (S.faults source.old) (S.faults source.new) }
-    ensures write_fault_only_if_count_rose { result ≡ Status.WriteFault → Rose (K.faults sink.old) (K.faults sink.new) }
-    ensures source_count_never_falls { S.faults source.old ≤ S.faults source.new }
-    ensures sink_count_never_falls { K.faults sink.old ≤ K.faults sink.new }
+    ensures ends { Ends (map string_bytes words.now) (S.state source.old) (S.state source.new) (K.state sink.old) (K.state sink.new) result }
+    ensures read_fault_only_if_count_rose { result ≡ Status.ReadFault → Rose (S.state source.old).faults (S.state source.new).faults }
+    ensures write_fault_only_if_count_rose { result ≡ Status.WriteFault → Rose (K.state sink.old).faults (K.state sink.new).faults }
+    ensures source_count_never_falls { (S.state source.old).faults ≤ (S.state source.new).faults }
+    ensures sink_count_never_falls { (K.state sink.old).faults ≤ (K.state sink.new).faults }
 {
     let Some(mode) = mode_of(words) else {
         return refuse_words(sink);
@@ -77,7 +77,7 @@ fn call<S: Source, K: Sink>(alloc: Global, words: &[String], source: &mut S, sin
 // Answers a whole text.
 fn answer<K: Sink>(alloc: Global, mode: Mode, text: &[u8], sink: &mut K) -> Status
     requires { length text.now ≤ longest_job }
-    ensures { Settles (due_to_reading mode (job_in text.now)) (K.written sink.old) (K.written sink.new) (K.faults sink.old) (K.faults sink.new) result }
+    ensures { Settles (due_to_reading mode (job_in text.now)) (K.state sink.old) (K.state sink.new) result }
 {
     match read_job(alloc, text) {
         Ok(job) => answer_job(alloc, mode, job, sink),
@@ -89,7 +89,7 @@ fn answer<K: Sink>(alloc: Global, mode: Mode, text: &[u8], sink: &mut K) -> Stat
 // Answers a job that was read.
 fn answer_job<K: Sink>(alloc: Global, mode: Mode, job: Job, sink: &mut K) -> Status
     requires { HasText job }
-    ensures { Settles (due_to_job mode job (refusal_of job)) (K.written sink.old) (K.written sink.new) (K.faults sink.old) (K.faults sink.new) result }
+    ensures { Settles (due_to_job mode job (refusal_of job)) (K.state sink.old) (K.state sink.new) result }
 {
     match check_job(alloc, job) {
         Ok(accepted) => answer_accepted(alloc, mode, accepted.job(), sink),
@@ -101,7 +101,7 @@ fn answer_job<K: Sink>(alloc: Global, mode: Mode, job: Job, sink: &mut K) -> Sta
 // Answers an accepted job.
 fn answer_accepted<K: Sink>(alloc: Global, mode: Mode, job: &Job, sink: &mut K) -> Status
     requires { HasText job.now }
-    ensures { Settles (due_to_accepted mode job.now) (K.written sink.old) (K.written sink.new) (K.faults sink.old) (K.faults sink.new) result }
+    ensures { Settles (due_to_accepted mode job.now) (K.state sink.old) (K.state sink.new) result }
 {
     match mode {
         Mode::Run => run(alloc, job, sink),
@@ -111,7 +111,7 @@ fn answer_accepted<K: Sink>(alloc: Global, mode: Mode, job: &Job, sink: &mut K) 
 
 // Runs an accepted job, or refuses it at its first line that can't be run yet.
 fn run<K: Sink>(alloc: Global, job: &Job, sink: &mut K) -> Status
-    ensures { Settles (due_to_run job.now (first_unbuilt job.now)) (K.written sink.old) (K.written sink.new) (K.faults sink.old) (K.faults sink.new) result }
+    ensures { Settles (due_to_run job.now (first_unbuilt job.now)) (K.state sink.old) (K.state sink.new) result }
 {
     match first_unbuilt(job) {
         Some(spot) => refuse(alloc, Refusal::NotBuilt, spot, sink),
@@ -121,18 +121,18 @@ fn run<K: Sink>(alloc: Global, job: &Job, sink: &mut K) -> Status
 
 // Writes the line for words that ask for no mode.
 fn refuse_words<K: Sink>(sink: &mut K) -> Status
-    ensures { Settles (due_to WrongWords) (K.written sink.old) (K.written sink.new) (K.faults sink.old) (K.faults sink.new) result }
+    ensures { Settles (due_to WrongWords) (K.state sink.old) (K.state sink.new) result }
 {
-    settled(put_line(sink, b"fenix: bad words\n"), Status::BadWords)
+    settled(write_whole(sink, b"fenix: bad words\n"), Status::BadWords)
 }
 
 // Writes the line of a refusal.
 fn refuse<K: Sink>(alloc: Global, refusal: Refusal, spot: Spot, sink: &mut K) -> Status
-    ensures { Settles (due_refusal refusal spot) (K.written sink.old) (K.written sink.new) (K.faults sink.old) (K.faults sink.new) result }
+    ensures { Settles (due_refusal refusal spot) (K.state sink.old) (K.state sink.new) result }
 {
     match refusal_line(alloc, refusal, spot) {
         Ok(line) => settled(
-            put_line(sink, line.as_slice()),
+            write_whole(sink, line.as_slice()),
             Status::BadJob(refusal, spot),
         ),
         Err(_) => Status::NoMemory,
@@ -154,12 +154,12 @@ fn refusal_line(alloc: Global, refusal: Refusal, spot: Spot) -> Result<Bytes, No
 }
 
 // The status of a call that has written what is due, or was cut short.
-fn settled(put: Result<(), Cut>, status: Status) -> Status
+fn settled(put: Result<(), PutEnd>, status: Status) -> Status
     ensures { result ≡ settled put status }
 {
     match put {
         Ok(()) => status,
-        Err(Cut::WriteFault) => Status::WriteFault,
-        Err(Cut::NoMemory) => Status::NoMemory,
+        Err(PutEnd::Failed) => Status::WriteFault,
+        Err(PutEnd::NoMemory) => Status::NoMemory,
     }
 }

@@ -1,11 +1,12 @@
 -- A source and a sink in memory that fail at given calls.
-use Rattle.std.specs.Prelude.{◌≡◌, ℕ, ℤ, pos, negsuc, Bool, true, false, ◌==◌, List, ◌++◌, length, drop, min, if◌then◌else◌}
+use Rattle.std.specs.Prelude.{◌≡◌, ℕ, ℤ, pos, negsuc, Bool, true, false, ◌==◌, List, ◌++◌, length, drop, min, Some, if◌then◌else◌}
 use Rattle.std.specs.List.{list_any}
 use Rattle.fx_io.specs.declared.source.ReadStep.{ReadStep}
 use Rattle.fx_io.specs.declared.source.ReadStep.TheVariants as read
 use Rattle.fx_io.specs.declared.sink.WriteStep.{WriteStep}
 use Rattle.fx_io.specs.declared.sink.WriteStep.TheVariants as write
 use Rattle.fx_io.specs.Faults.{counted}
+use Rattle.fx_io.specs.States.{SourceState, SinkState}
 
 -- the bytes that are left, the most bytes that a call gives, the numbers of the calls that fail, and how many calls
 -- and faults there were
@@ -22,6 +23,13 @@ pub record HeldSink : Type 0 where
   pub failing : List ℤ
   pub calls : ℕ
   pub faults : ℕ
+
+-- each tells of its bytes
+abbrev pub source_state : HeldSource → SourceState
+source_state s = record { left = Some s.left; faults = s.faults }
+
+abbrev pub sink_state : HeldSink → SinkState
+sink_state k = record { written = Some k.written; faults = k.faults }
 
 -- the number of a call, as a list of numbers has it
 abbrev pub is_number : ℕ → ℤ → Bool

@@ -1,4 +1,5 @@
 pub mod Faults
+pub mod States
 pub mod Told
 pub mod Reading
 pub mod Writing

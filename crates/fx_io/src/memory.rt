@@ -1,7 +1,6 @@
-ghost use Rattle.std.specs.Prelude.{◌≡◌, ◌<◌, ◌≤◌, [], Some, length};
+ghost use Rattle.std.specs.Prelude.{◌≡◌, ◌<◌, [], length};
 ghost use Rattle.std.specs.List.{list_any};
 ghost use Rattle.fx_io.specs.Held.{is_number};
-ghost use Rattle.fx_io.specs.Faults.{Rose};
 ghost use Rattle.fx_io.specs.Reading.{Reads};
 ghost use Rattle.fx_io.specs.Writing.{Writes};
 
@@ -59,17 +58,13 @@ impl MemSource {
 }
 
 impl Source for MemSource {
-    ghost use Rattle.fx_io.specs.Held.{answer_of_source, source_after};
+    ghost use Rattle.fx_io.specs.Held.{answer_of_source, source_after, source_state};
 
-    ghost left = { λ s. Some s.left };
-
-    ghost faults = { λ s. s.faults };
+    ghost state = { source_state };
 
     fn read_some(&mut self, into: &mut [u8]) -> ReadStep
         requires { 0 < length into.old }
-        ensures content { Reads (Some self.old.left) (Some self.new.left) into.new result }
-        ensures count_never_falls { self.old.faults ≤ self.new.faults }
-        ensures failed_only_if_count_rose { result ≡ ReadStep.Failed → Rose self.old.faults self.new.faults }
+        ensures reads { Reads (source_state self.old) (source_state self.new) into.new result }
         ensures answer { result ≡ answer_of_source self.old (length into.old) }
         ensures after { self.new ≡ source_after self.old result }
     {
@@ -128,17 +123,13 @@ impl MemSink {
 }
 
 impl Sink for MemSink {
-    ghost use Rattle.fx_io.specs.Held.{AnswersPiece, sink_after};
+    ghost use Rattle.fx_io.specs.Held.{AnswersPiece, sink_after, sink_state};
 
-    ghost written = { λ k. Some k.written };
-
-    ghost faults = { λ k. k.faults };
+    ghost state = { sink_state };
 
     fn write_some(&mut self, piece: &[u8]) -> WriteStep
         requires { 0 < length piece.now }
-        ensures content { Writes (Some self.old.written) (Some self.new.written) piece.now result }
-        ensures count_never_falls { self.old.faults ≤ self.new.faults }
-        ensures failed_only_if_count_rose { result ≡ WriteStep.Failed → Rose self.old.faults self.new.faults }
+        ensures writes { Writes (sink_state self.old) (sink_state self.new) piece.now result }
         ensures answer { AnswersPiece self.old (length piece.now) result }
         ensures after { self.new ≡ sink_after self.old piece.now result }
     {

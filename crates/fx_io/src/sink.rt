@@ -1,5 +1,5 @@
-ghost use Rattle.std.specs.Prelude.{◌≡◌, ℕ, ◌<◌, ◌≤◌, List, Option, length};
-ghost use Rattle.fx_io.specs.Faults.{Rose};
+ghost use Rattle.std.specs.Prelude.{◌<◌, length};
+ghost use Rattle.fx_io.specs.States.{SinkState};
 ghost use Rattle.fx_io.specs.Writing.{Writes};
 
 /// What one call of a sink did.
@@ -15,17 +15,13 @@ pub enum WriteStep {
 
 /// Where bytes go.
 ///
-/// `written` is what it got so far, where it tells. `faults` counts its failures: it never falls, and stands
+/// Its state is what it got so far, where it tells, and the count of its failures. The count never falls, and stands
 /// still at its last value, 18,446,744,073,709,551,615.
 pub trait Sink {
-    ghost written: { Self → Option (List ℕ) };
-
-    ghost faults: { Self → ℕ };
+    ghost state: { Self → SinkState };
 
     /// Appends at least one byte of the front of `piece`, which isn't empty, or says why it can't.
     fn write_some(&mut self, piece: &[u8]) -> WriteStep
         requires { 0 < length piece.now }
-        ensures content { Writes (written self.old) (written self.new) piece.now result }
-        ensures count_never_falls { faults self.old ≤ faults self.new }
-        ensures failed_only_if_count_rose { result ≡ WriteStep.Failed → Rose (faults self.old) (faults self.new) };
+        ensures { Writes (state self.old) (state self.new) piece.now result };
 }

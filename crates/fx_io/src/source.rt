@@ -1,6 +1,6 @@
-ghost use Rattle.std.specs.Prelude.{◌≡◌, ℕ, ◌<◌, ◌≤◌, List, Option, length};
-ghost use Rattle.fx_io.specs.Faults.{Rose};
+ghost use Rattle.std.specs.Prelude.{◌<◌, length};
 ghost use Rattle.fx_io.specs.Reading.{Reads};
+ghost use Rattle.fx_io.specs.States.{SourceState};
 
 /// What one call of a source gave.
 #[derive(Clone, Copy, Debug, PartialEq, Eq)]
@@ -15,17 +15,13 @@ pub enum ReadStep {
 
 /// Where bytes come from.
 ///
-/// `left` is what it still holds, where it tells. `faults` counts its failures: it never falls, and stands
+/// Its state is what it still holds, where it tells, and the count of its failures. The count never falls, and stands
 /// still at its last value, 18,446,744,073,709,551,615.
 pub trait Source {
-    ghost left: { Self → Option (List ℕ) };
-
-    ghost faults: { Self → ℕ };
+    ghost state: { Self → SourceState };
 
     /// Reads at least one byte into the front of `into`, which isn't empty, or says why it can't.
     fn read_some(&mut self, into: &mut [u8]) -> ReadStep
         requires { 0 < length into.old }
-        ensures content { Reads (left self.old) (left self.new) into.new result }
-        ensures count_never_falls { faults self.old ≤ faults self.new }
-        ensures failed_only_if_count_rose { result ≡ ReadStep.Failed → Rose (faults self.old) (faults self.new) };
+        ensures { Reads (state self.old) (state self.new) into.new result };
 }

@@ -30,9 +30,7 @@ impl<R> StdSource<R> {
 }
 
 impl<R: Read> Source for StdSource<R> {
-    ghost left = { λ _. None };
-
-    ghost faults = { λ s. s };
+    ghost state = { λ s. record { left = None; faults = s } };
 
     fn read_some(&mut self, into: &mut [u8]) -> ReadStep {
         match self.inner.read(into) {
@@ -72,9 +70,7 @@ impl<W> StdSink<W> {
 }
 
 impl<W: Write> Sink for StdSink<W> {
-    ghost written = { λ _. None };
-
-    ghost faults = { λ s. s };
+    ghost state = { λ s. record { written = None; faults = s } };
 
     fn write_some(&mut self, piece: &[u8]) -> WriteStep {
         match write_and_flush(&mut self.inner, piece) {

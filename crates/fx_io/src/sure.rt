@@ -33,9 +33,7 @@ impl SureSource {
 }
 
 impl Source for SureSource {
-    ghost left = { λ s. Some s };
-
-    ghost faults = { λ _. 0 };
+    ghost state = { λ s. record { left = Some s; faults = 0 } };
 
     fn read_some(&mut self, into: &mut [u8]) -> ReadStep {
         let (_, rest) = self.held.as_slice().split_at(self.at);
@@ -81,9 +79,7 @@ impl SureSink {
 }
 
 impl Sink for SureSink {
-    ghost written = { λ k. Some k };
-
-    ghost faults = { λ _. 0 };
+    ghost state = { λ k. record { written = Some k; faults = 0 } };
 
     fn write_some(&mut self, piece: &[u8]) -> WriteStep {
         match self.held.append(piece) {

@@ -1,7 +1,6 @@
-ghost use Rattle.std.specs.Prelude.{◌≡◌, ◌≤◌, Err};
-ghost use Rattle.fx_io.specs.Faults.{Rose};
+ghost use Rattle.std.specs.Prelude.{◌≡◌};
 ghost use Rattle.fx_io.specs.Reading.{ReadsWhole};
-ghost use Rattle.fx_io.specs.Writing.{WritesWhole};
+ghost use Rattle.fx_io.specs.Writing.{Puts};
 ghost use Rattle.fx_io.specs.declared.whole.WholeEnd.TheVariants as whole_end;
 ghost use Rattle.fx_io.specs.declared.whole.PutEnd.TheVariants as put_end;
 
@@ -38,16 +37,22 @@ pub enum PutEnd {
     NoMemory,
 }
 
+impl From<NoMemory> for PutEnd {
+    ghost from_gives = { λ _ e. e ≡ put_end.NoMemory };
+
+    fn from(_error: NoMemory) -> PutEnd {
+        PutEnd::NoMemory
+    }
+}
+
 const PIECE: usize = 4096;
 
-/// Reads a source to its end, in pieces of at most 4,096 bytes, and gives all that came.
+/// All that a source holds. It is asked in pieces of at most 4,096 bytes until it says `End`, and not again.
 ///
-/// `TooLong` comes exactly where more than `limit` bytes came; reading stops then. `Failed` comes only where the
-/// source's count of faults rose in this call.
+/// `TooLong` says that more bytes than `limit` came, and is answered as soon as they did. `Failed` says that the source
+/// failed, and its count of faults rose.
 pub fn read_whole<S: Source>(alloc: Global, source: &mut S, limit: usize) -> Result<Bytes, WholeEnd>
-    ensures content { ReadsWhole (S.left source.old) (S.left source.new) limit result }
-    ensures count_never_falls { S.faults source.old ≤ S.faults source.new }
-    ensures failed_only_if_count_rose { result ≡ Err whole_end.Failed → Rose (S.faults source.old) (S.faults source.new) }
+    ensures { ReadsWhole (S.state source.old) (S.state source.new) limit result }
 {
     let mut bytes = Bytes::new(alloc);
     let mut piece = [0u8; PIECE];
@@ -69,9 +74,7 @@ pub fn read_whole<S: Source>(alloc: Global, source: &mut S, limit: usize) -> Res
 ///
 /// `Failed` comes only where the sink's count of faults rose in this call.
 pub fn write_whole<K: Sink>(sink: &mut K, piece: &[u8]) -> Result<(), PutEnd>
-    ensures content { WritesWhole (K.written sink.old) (K.written sink.new) piece.now result }
-    ensures count_never_falls { K.faults sink.old ≤ K.faults sink.new }
-    ensures failed_only_if_count_rose { result ≡ Err put_end.Failed → Rose (K.faults sink.old) (K.faults sink.new) }
+    ensures { Puts (K.state sink.old) (K.state sink.new) piece.now result }
 {
     let mut rest = piece;
     while !rest.is_empty() {

@@ -1,46 +1,31 @@
 use Rattle.std.proofs.Common.{◌++◌, map}
 use Rattle.std.proofs.lemmas.Result.{err_from_is_err_and}
+use Rattle.fx_io.proofs.Written.{SoFar, begins, goes_on, is_cut, ends_with}
 use Rattle.fx_cli.specs.Built.{plan_of}
 use Rattle.fx_cli.specs.Items.{text_of}
 use Rattle.fx_cli.specs.Plan.{closing, journal_of, opening, print_of}
 use Rattle.fx_cli.proofs.Texts.{journal_text}
-use Rattle.fx_cli.proofs.Written.{begins_split, goes_on, is_cut, ends_with}
 use Rattle.fx_cli.proofs.run.write_journal.Goals as goal
 
 pub returns-in_err-put_opening : goal.returns-in_err-put_opening
 returns-in_err-put_opening g c =
     let plan = plan_of c.args.job.now in
-    let prints = text_of (map (print_of plan.arrays) plan.printed) in
     let p = err_from_is_err_and c.from_residual.result c.from_residual.ensures.1 in
-    rw (p.1, p.2) (is_cut (g.K.Sink.written c.args.sink.now) (g.K.Sink.written c.args.sink.now) (g.K.Sink.written c.put_opening.new.sink)
-    (g.K.Sink.faults c.args.sink.now) (g.K.Sink.faults c.args.sink.now) (g.K.Sink.faults c.put_opening.new.sink)
-    (text_of (journal_of plan)) (text_of opening) (prints ++ text_of closing) c.in_err-put_opening.field-0.0
-    (begins_split (g.K.Sink.written c.args.sink.now) (g.K.Sink.faults c.args.sink.now) (text_of (journal_of plan)) (text_of opening ++ (prints ++ text_of closing)) (journal_text plan))
-    c.in_err-put_opening.ensures)
+    rw (p.1, p.2) (is_cut (text_of (map (print_of plan.arrays) plan.printed) ++ text_of closing) c.in_err-put_opening.field-0.0
+    (begins (journal_text plan)) c.in_err-put_opening.ensures)
 
 pub returns-in_err-put_body : goal.returns-in_err-put_body
 returns-in_err-put_body g c =
     let plan = plan_of c.args.job.now in
-    let prints = text_of (map (print_of plan.arrays) plan.printed) in
-    let first = goes_on (g.K.Sink.written c.args.sink.now) (g.K.Sink.written c.args.sink.now) (g.K.Sink.written c.put_opening.new.sink)
-    (g.K.Sink.faults c.args.sink.now) (g.K.Sink.faults c.args.sink.now) (g.K.Sink.faults c.put_opening.new.sink)
-    (text_of (journal_of plan)) (text_of opening) (prints ++ text_of closing)
-    (begins_split (g.K.Sink.written c.args.sink.now) (g.K.Sink.faults c.args.sink.now) (text_of (journal_of plan)) (text_of opening ++ (prints ++ text_of closing)) (journal_text plan))
-    c.in_ok-put_opening.ensures in
+    let first = goes_on (begins (journal_text plan)) c.in_ok-put_opening.ensures in
     let p = err_from_is_err_and c.from_residual-in_err-put_body.result c.from_residual-in_err-put_body.ensures.1 in
-    rw (p.1, p.2) (is_cut (g.K.Sink.written c.args.sink.now) (g.K.Sink.written c.put_opening.new.sink) (g.K.Sink.written c.put_body.new.sink)
-    (g.K.Sink.faults c.args.sink.now) (g.K.Sink.faults c.put_opening.new.sink) (g.K.Sink.faults c.put_body.new.sink) (text_of (journal_of plan)) prints (text_of closing) c.in_err-put_body.field-0.0 first c.in_err-put_body.ensures)
+    rw (p.1, p.2) (is_cut (text_of closing) c.in_err-put_body.field-0.0 first c.in_err-put_body.ensures)
 
 pub returns : goal.returns
 returns g c =
     let plan = plan_of c.args.job.now in
-    let prints = text_of (map (print_of plan.arrays) plan.printed) in
-    let first = goes_on (g.K.Sink.written c.args.sink.now) (g.K.Sink.written c.args.sink.now) (g.K.Sink.written c.put_opening.new.sink)
-    (g.K.Sink.faults c.args.sink.now) (g.K.Sink.faults c.args.sink.now) (g.K.Sink.faults c.put_opening.new.sink)
-    (text_of (journal_of plan)) (text_of opening) (prints ++ text_of closing)
-    (begins_split (g.K.Sink.written c.args.sink.now) (g.K.Sink.faults c.args.sink.now) (text_of (journal_of plan)) (text_of opening ++ (prints ++ text_of closing)) (journal_text plan))
-    c.in_ok-put_opening.ensures in
-    let second = goes_on (g.K.Sink.written c.args.sink.now) (g.K.Sink.written c.put_opening.new.sink) (g.K.Sink.written c.put_body.new.sink)
-    (g.K.Sink.faults c.args.sink.now) (g.K.Sink.faults c.put_opening.new.sink) (g.K.Sink.faults c.put_body.new.sink) (text_of (journal_of plan)) prints (text_of closing) first c.in_ok-put_body.ensures in
-    ends_with (g.K.Sink.written c.args.sink.now) (g.K.Sink.written c.put_body.new.sink) (g.K.Sink.written c.put_closing.new.sink)
-    (g.K.Sink.faults c.args.sink.now) (g.K.Sink.faults c.put_body.new.sink) (g.K.Sink.faults c.put_closing.new.sink) (text_of (journal_of plan)) (text_of closing) c.put_closing.result second c.put_closing.ensures
+    let first : SoFar (g.K.Sink.state c.args.sink.now) (g.K.Sink.state c.put_opening.new.sink) (text_of (journal_of plan)) (text_of (map (print_of plan.arrays) plan.printed) ++ text_of closing) =
+    goes_on (begins (journal_text plan)) c.in_ok-put_opening.ensures in
+    let second : SoFar (g.K.Sink.state c.args.sink.now) (g.K.Sink.state c.put_body.new.sink) (text_of (journal_of plan)) (text_of closing) =
+    goes_on first c.in_ok-put_body.ensures in
+    ends_with c.put_closing.result second c.put_closing.ensures

@@ -9,8 +9,7 @@ returns-in-Ok-clause-ends g c =
     let same = sym c.as_slice.ensures in
     let read = c.in-Ok.ensures.content in
     let short = subst (λ (t : List ℕ). length t ≤ longest_job) same read.0 in
-    let gone = subst (λ (t : List ℕ). Loses (g.S.Source.left c.args.source.now) (g.S.Source.left c.read_whole.new.source) t) same read.1 in
-    ends_of (map string_bytes c.args.words.now) (g.S.Source.left c.args.source.now) (g.S.Source.left c.read_whole.new.source)
-    (g.K.Sink.written c.args.sink.now) (g.K.Sink.written c.answer.new.sink)
-    (g.K.Sink.faults c.args.sink.now) (g.K.Sink.faults c.answer.new.sink) (Whole c.in-Some.mode c.as_slice.result.now) c.answer.result
+    let gone = subst (λ (t : List ℕ). Loses (g.S.Source.state c.args.source.now).left (g.S.Source.state c.read_whole.new.source).left t) same read.1 in
+    ends_of (map string_bytes c.args.words.now) (g.S.Source.state c.args.source.now) (g.S.Source.state c.read_whole.new.source)
+    (g.K.Sink.state c.args.sink.now) (g.K.Sink.state c.answer.new.sink) (Whole c.in-Some.mode c.as_slice.result.now) c.answer.result
     (sym c.in-Some.ensures, short, gone, read.2) c.answer.ensures

@@ -5,5 +5,5 @@ use Rattle.fx_cli.proofs.top.run.Goals as goal
 
 pub returns-in-None : goal.returns-in-None
 returns-in-None g c =
-    rw c.settled.ensures (settles_run c.args.job.now (first_unbuilt c.args.job.now) (g.K.Sink.written c.args.sink.now) (g.K.Sink.written c.write_journal.new.sink)
-    (g.K.Sink.faults c.args.sink.now) (g.K.Sink.faults c.write_journal.new.sink) c.write_journal.result (sym c.in-None.ensures) c.write_journal.ensures)
+    rw c.settled.ensures (settles_run c.args.job.now (first_unbuilt c.args.job.now) (g.K.Sink.state c.args.sink.now) (g.K.Sink.state c.write_journal.new.sink)
+    c.write_journal.result (sym c.in-None.ensures) c.write_journal.ensures)

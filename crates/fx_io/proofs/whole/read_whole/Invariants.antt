@@ -5,10 +5,10 @@ use Rattle.fx_io.proofs.whole.read_whole.Given as goal
 
 abbrev pub invariant-loop-count : goal.invariant-loop-count
 invariant-loop-count g l = record {
-  gone : Loses (g.S.Source.left l.fn.source) (g.S.Source.left l.source) l.bytes;
+  gone : Loses (g.S.Source.state l.fn.source).left (g.S.Source.state l.source).left l.bytes;
   within : length l.bytes ≤ l.limit;
   room : length l.piece ≡ 4096;
-  counts : g.S.Source.faults l.fn.source ≤ g.S.Source.faults l.source;
+  counts : (g.S.Source.state l.fn.source).faults ≤ (g.S.Source.state l.source).faults;
 }
 
 abbrev pub decreases-loop-count : goal.decreases-loop-count

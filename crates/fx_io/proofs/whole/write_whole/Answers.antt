@@ -13,7 +13,7 @@ loop-rest-preserved g c =
       added = (
         before.0 ++ more,
         before.1 ∙ ap (λ (l : List ℕ). before.0 ++ l) split ∙ sym (append_assoc before.0 more c.split_at.result.1.now),
-        gains_more (g.K.Sink.written c.args.sink.now) (g.K.Sink.written c.loop-rest.sink) (g.K.Sink.written c.write_some.new.self)
+        gains_more (g.K.Sink.state c.args.sink.now).written (g.K.Sink.state c.loop-rest.sink).written (g.K.Sink.state c.write_some.new.self).written
             before.0 more before.2 c.in-Took.ensures.content.2,
       );
       counts = omega (arith, c.loop-rest.invariant.counts, c.write_some.ensures.count_never_falls);

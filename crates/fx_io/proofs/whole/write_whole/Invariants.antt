@@ -5,8 +5,8 @@ use Rattle.fx_io.proofs.whole.write_whole.Given as goal
 
 abbrev pub invariant-loop-rest : goal.invariant-loop-rest
 invariant-loop-rest g l = record {
-  added : (front : List ℕ) × (l.piece ≡ front ++ l.rest) × Gains (g.K.Sink.written l.fn.sink) (g.K.Sink.written l.sink) front;
-  counts : g.K.Sink.faults l.fn.sink ≤ g.K.Sink.faults l.sink;
+  added : (front : List ℕ) × (l.piece ≡ front ++ l.rest) × Gains (g.K.Sink.state l.fn.sink).written (g.K.Sink.state l.sink).written front;
+  counts : (g.K.Sink.state l.fn.sink).faults ≤ (g.K.Sink.state l.sink).faults;
 }
 
 abbrev pub decreases-loop-rest : goal.decreases-loop-rest

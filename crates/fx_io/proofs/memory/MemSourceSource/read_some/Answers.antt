@@ -4,13 +4,18 @@ use Rattle.fx_io.specs.Held.{HeldSource}
 use Rattle.fx_io.proofs.Joined.{front_gone}
 use Rattle.fx_io.proofs.memory.MemSourceSource.read_some.Goals as goal
 
-pub returns-clause-content : goal.returns-clause-content
-returns-clause-content c =
+pub returns-clause-reads : goal.returns-clause-reads
+returns-clause-reads c =
     let n = c.copy_front-count.result in
-    let rest = c.split_at.ensures.back ∙ ap (λ (l : List ℕ). drop c.self.inside.at l) c.as_slice-2.ensures in (
-      grind (arith, common_steps),
-      grind (arith, common_steps),
-      front_gone c.self.inside.held (take n c.copy_front-count.new.into) c.args.self.now.left c.self.inside.at n
-          (ap (λ (s : HeldSource). s.left) c.self.view_is)
-          (c.copy_front-count.ensures.bytes ∙ ap (λ (l : List ℕ). take n l) rest),
-    )
+    let rest = c.split_at.ensures.back ∙ ap (λ (l : List ℕ). drop c.self.inside.at l) c.as_slice-2.ensures in
+    record {
+      content = (
+        grind (arith, common_steps),
+        grind (arith, common_steps),
+        front_gone c.self.inside.held (take n c.copy_front-count.new.into) c.args.self.now.left c.self.inside.at n
+            (ap (λ (s : HeldSource). s.left) c.self.view_is)
+            (c.copy_front-count.ensures.bytes ∙ ap (λ (l : List ℕ). take n l) rest),
+      );
+      count_never_falls = rw (← c.self.view_is) (omega arith);
+      failed_only_if_count_rose = λ e. absurd cc;
+    }
