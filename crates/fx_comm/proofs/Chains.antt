@@ -1,5 +1,5 @@
 -- Communicators that come of each other by repairs.
-use Rattle.std.proofs.Common.{◌≡◌, ℕ, ◌+◌, ◌<◌, ◌≤◌, zero, suc, Bool, true, inl, inr, List, [], ◌∷◌, refl, sym, ap, subst, ◌∙◌, arith, add-one}
+use Rattle.std.proofs.Common.{◌≡◌, ℕ, ◌<◌, ◌≤◌, zero, suc, Bool, true, inl, inr, List, [], ◌∷◌, sym, ap, subst, ◌∙◌, arith, add-one}
 use Rattle.std.proofs.lemmas.Bool.{cases_eq, cases_lt}
 use Rattle.fx_comm.specs.Seats.{Seat, spares_of, repaired, after_repairs, NobodyComesBack, NoTwoPlaces, AllPresent, IsSeated}
 use Rattle.fx_comm.proofs.Repairs.{keeps, repaired_apart, repaired_present}

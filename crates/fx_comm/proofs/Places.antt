@@ -1,5 +1,5 @@
 -- Places, and who is at them.
-use Rattle.std.proofs.Common.{◌≡◌, ℕ, ◌+◌, ◌<◌, zero, suc, Bool, true, false, ◌||◌, ◌==◌, inl, inr, List, [], ◌∷◌, length, slice_get, refl, sym, ap, ◌∙◌, arith, add-one, true≢false}
+use Rattle.std.proofs.Common.{◌≡◌, ℕ, ◌+◌, ◌<◌, zero, suc, true, false, ◌==◌, inl, inr, List, [], ◌∷◌, length, slice_get, refl, sym, ap, ◌∙◌, arith, add-one, true≢false}
 use Rattle.std.specs.Prelude.{is_some}
 use Rattle.std.specs.Option.{option_map}
 use Rattle.std.specs.declared.option.Option.{Option}

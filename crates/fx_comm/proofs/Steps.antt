@@ -1,6 +1,7 @@
 -- One seat of a loop over the seats.
 use Rattle.std.proofs.Common.{◌≡◌, ℕ, ◌+◌, ◌-◌, ◌<◌, ◌≤◌, zero, suc, Bool, true, false, not, ◌&&◌, ◌||◌, ◌==◌, inl, inr, List, [], ◌∷◌, ◌++◌, length, drop, slice_index_or, refl, sym, ap, ◌∙◌, arith, append_assoc, add-one, drop-cons}
 use Rattle.std.proofs.lemmas.List.{append-nil}
+use Rattle.std.proofs.Math.ListN.{drop_of_length-le}
 use Rattle.std.proofs.lemmas.Bool.{eq-eqb, ne_eqb, cases_eq}
 use Rattle.std.specs.Ordering.{nat_cmp}
 use Rattle.std.specs.Cmp.{nat_cmp_total, unsigned_tied}
@@ -41,17 +42,26 @@ turned a b = elim (cases_eq a b) [
   | inr apart ↦ ne_eqb a b apart ∙ sym (ne_eqb b a (λ same. apart (sym same)))
 ]
 
-put_in : (e c r : Bool) → ((not e && c) && not r) ≡ (c && not (e || r))
+put_in : (e c r : Bool) → ((e || c) || r) ≡ (c || (e || r))
 put_in true true r = refl
 put_in true false r = refl
 put_in false true r = refl
 put_in false false r = refl
 
-pub spare_step : (spares : set.FinSet nat_cmp) (seats : List Seat) (k : ℕ) (d : Seat) (proc : ℕ) → k < length seats → (set.contains (set.remove spares (slice_index_or seats k d).1.0) proc && not (has_place (drop (k + 1) seats) proc)) ≡ (set.contains spares proc && not (has_place (drop k seats) proc))
-spare_step spares seats k d proc within =
+pub placed_step : (placed : set.FinSet nat_cmp) (seats : List Seat) (k : ℕ) (d : Seat) (proc : ℕ) → k < length seats → (set.contains (set.insert placed (slice_index_or seats k d).1.0) proc || has_place (drop (k + 1) seats) proc) ≡ (set.contains placed proc || has_place (drop k seats) proc)
+placed_step placed seats k d proc within =
     let s : Seat = slice_index_or seats k d in
-    rw (seats_at seats k d within, set.contains-remove nat_cmp_total spares s.1.0 proc, unsigned_tied proc s.1.0, turned proc s.1.0)
-    (put_in (s.1.0 == proc) (set.contains spares proc) (has_place (drop (k + 1) seats) proc))
+    rw (seats_at seats k d within, set.contains-insert nat_cmp_total placed s.1.0 proc, unsigned_tied proc s.1.0, turned proc s.1.0)
+    (put_in (s.1.0 == proc) (set.contains placed proc) (has_place (drop (k + 1) seats) proc))
+
+either_none : (b : Bool) → (b || false) ≡ b
+either_none true = refl
+either_none false = refl
+
+pub placed_all : (placed : set.FinSet nat_cmp) (seats : List Seat) (k proc : ℕ) → length seats ≤ k → (set.contains placed proc || has_place (drop k seats) proc) ≡ has_place seats proc → set.contains placed proc ≡ has_place seats proc
+placed_all placed seats k proc past all =
+    let gone : drop k seats ≡ [] = drop_of_length-le seats past in
+    sym (either_none (set.contains placed proc)) ∙ (rw gone at all)
 
 -- the least of a set is the first of its members
 pub members_first : (s : set.FinSet nat_cmp) (n : ℕ) → n < 32 → IsLeastOf s n → members_of s ≡ n ∷ members_of (set.remove s n)

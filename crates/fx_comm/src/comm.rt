@@ -1,6 +1,7 @@
 ghost use Rattle.std.specs.Prelude.{◌≡◌, ◌<◌, ◌≤◌, ◌&&◌, ℕ, Some, IfOk, IfSome, length, not, slice_get, nat_lt};
 ghost use Rattle.std.specs.Option.{option_map};
 ghost use Rattle.std.specs.FinSet as set;
+ghost use Rattle.fx_base.specs.Sets.{IsBelow};
 ghost use Rattle.fx_comm.specs.Seats.{IsComm, AllBelow32, first_seats, repaired, has_place, place_in};
 
 use fx_base::{Ident, NoMemory, Place, Proc, ProcSet, Seats};
@@ -44,8 +45,6 @@ pub fn repair(alloc: Global, old: &Comm, present: ProcSet) -> Result<Comm, NoMem
     requires { 0 < set.len present }
     ensures { IfOk result (λ comm. comm ≡ repaired old.now (set.contains present)) }
 {
-    // The count says that each of them is below 32.
-    let _ = present.count();
     let mut spares = spares_of(&old.seats, present);
     let mut seats = Seats::new(alloc);
     for seat in old.seats.as_slice() {
@@ -124,14 +123,15 @@ impl Comm {
     }
 }
 
-/// The present processes that have no place.
+/// The present processes that have no place. Each that is present is below 32.
 fn spares_of(old: &Seats, present: ProcSet) -> ProcSet
     requires { AllBelow32 old.now }
-    ensures { (proc : ℕ) → set.contains result proc ≡ (set.contains present proc && not (has_place old.now proc)) }
+    ensures spares { (proc : ℕ) → set.contains result proc ≡ (set.contains present proc && not (has_place old.now proc)) }
+    ensures below { IsBelow 32 present }
 {
-    let mut spares = present;
+    let mut placed = ProcSet::new();
     for seat in old.as_slice() {
-        spares.remove(seat.1.0);
+        placed.insert(seat.1.0);
     }
-    spares
+    present.difference(placed)
 }

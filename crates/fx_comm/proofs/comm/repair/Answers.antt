@@ -24,14 +24,14 @@ loop-seat-preserved c =
     elim c.if-has.branch [
       | then-has+in_ok-push w ↦
           rw (w.seats-is, w.spares-is, w.in_ok-push.ensures.ok)
-          (stay_step (set.contains c.args.present) c.loop-seat.seats s rest (members_of c.loop-seat.spares) (sym c.has.ensures ∙ w.if-has.true) ∙ before)
+          (stay_step (set.contains c.args.present) c.loop-seat.seats s rest (members_of c.loop-seat.spares) (sym c.has.ensures.member ∙ w.if-has.true) ∙ before)
       | else-has+in-Some+in_ok-push-2 w ↦
           rw (w.seats-is, w.spares-is, w.in_ok-push-2.ensures.ok, w.remove.ensures)
-          (fill_step (set.contains c.args.present) c.loop-seat.seats s rest (members_of c.loop-seat.spares) w.in-Some.spare (members_of (set.remove c.loop-seat.spares w.in-Some.spare)) (sym c.has.ensures ∙ w.if-has.false)
+          (fill_step (set.contains c.args.present) c.loop-seat.seats s rest (members_of c.loop-seat.spares) w.in-Some.spare (members_of (set.remove c.loop-seat.spares w.in-Some.spare)) (sym c.has.ensures.member ∙ w.if-has.false)
           (members_first c.loop-seat.spares w.in-Some.spare w.in-Some.ensures.below w.in-Some.ensures.least) ∙ before)
       | else-has+in_default w ↦
           rw (w.seats-is, w.spares-is)
-          (leave_step (set.contains c.args.present) c.loop-seat.seats s rest (members_of c.loop-seat.spares) (sym c.has.ensures ∙ w.if-has.false) (ap members_of w.in_default.ensures.none ∙ members_none) ∙ before)
+          (leave_step (set.contains c.args.present) c.loop-seat.seats s rest (members_of c.loop-seat.spares) (sym c.has.ensures.member ∙ w.if-has.false) (ap members_of w.in_default.ensures.none ∙ members_none) ∙ before)
     ]
 
 pub invariant_of-result : goal.invariant_of-result
@@ -40,5 +40,5 @@ invariant_of-result c =
     let gone : drop c.loop-seat.seat-index items ≡ [] = drop_of_length-le items c.loop-seat-test.false in
     let all : c.loop-seat.seats ++ [] ≡ repaired items (set.contains c.args.present) = rw gone at c.loop-seat.invariant in
     let done : c.loop-seat.seats ≡ repaired items (set.contains c.args.present) = sym (append-nil c.loop-seat.seats) ∙ all in
-    let some : 0 < length (members_of c.args.present) = rw (length_members c.args.present c.count.ensures.below) c.requires in
+    let some : 0 < length (members_of c.args.present) = rw (length_members c.args.present c.spares_of-spares.ensures.below) c.requires in
     rw (done, c.as_slice-seat-items.ensures) (repaired_comm (set.contains c.args.present) c.old.inside.seats c.old.invariant some)
