@@ -5,6 +5,7 @@ pub mod PickedLemmas
 pub mod SimpleLemmas
 pub mod HeadLemmas
 pub mod SoFar
+pub mod Sound
 pub mod Adds
 pub mod Found
 pub mod Again

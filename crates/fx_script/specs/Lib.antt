@@ -6,11 +6,12 @@ pub mod Names
 pub mod Fields
 pub mod Exprs
 pub mod Next
+pub mod SaidLines
 pub mod Spots
 pub mod Keywords
 pub mod Statements
 pub mod Heads
-pub mod Stands
+pub mod Order
 pub mod Moves
 pub mod Reading
 pub mod Answers

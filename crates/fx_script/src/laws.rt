@@ -1,9 +1,11 @@
 //! Laws of the definitions alone.
 
-ghost use Rattle.std.specs.Prelude.{◌≡◌, ℕ, List, Ok};
+ghost use Rattle.std.specs.Prelude.{◌≡◌, ◌↔◌, ℕ, List, Ok};
+ghost use Rattle.fx_text.specs.Lines.{Line, lines_of};
 ghost use Rattle.fx_script.specs.declared.job.Job.{Job};
-ghost use Rattle.fx_script.specs.Canonical.{canonical, aside, HasText, SpellsAlone};
-ghost use Rattle.fx_script.specs.Reading.{job_in};
+ghost use Rattle.fx_script.specs.Canonical.{canonical, without_spots, HasText, SpellsAlone};
+ghost use Rattle.fx_script.specs.Reading.{job_in, sound};
+ghost use Rattle.fx_script.specs.SaidLines.{lines_joined, AreTextLines, IsSound};
 ghost use Rattle.fx_script.specs.Spelling.{Spells};
 
 /// A text spells at most one job.
@@ -24,5 +26,16 @@ pub fn the_canonical_text_spells_its_job_alone()
 
 /// Jobs that are the same but for their spots have one canonical text.
 pub fn jobs_alike_have_one_text()
-    ensures { (a b : Job) → aside a ≡ aside b → canonical a ≡ canonical b }
+    ensures { (a b : Job) → without_spots a ≡ without_spots b → canonical a ≡ canonical b }
+{}
+
+/// The lines of a text are its bytes, cut behind each line end.
+pub fn a_text_is_its_lines()
+    ensures whole { (text : List ℕ) → lines_joined (lines_of text) ≡ text }
+    ensures cut { (text : List ℕ) → AreTextLines (lines_of text) }
+{}
+
+/// Nothing is wrong with a line exactly where it is sound.
+pub fn nothing_is_wrong_with_a_sound_line()
+    ensures { (line : Line) → (sound line ≡ Ok tt) ↔ IsSound line }
 {}
