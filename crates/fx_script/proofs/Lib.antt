@@ -19,3 +19,10 @@ pub mod CanonAlone
 pub mod PrintLemmas
 pub mod TextLemmas
 pub mod JobText
+pub mod Judged
+pub mod JudgedWords
+pub mod JudgedLines
+pub mod TextCuts
+pub mod Refusals
+pub mod Closing
+pub mod Completing

@@ -15,6 +15,8 @@ pub mod Order
 pub mod Moves
 pub mod Reading
 pub mod Answers
+pub mod Refused
 pub mod Spelling
 pub mod Canonical
 pub mod Rows
+pub mod RefusedRows
