@@ -24,5 +24,7 @@ pub mod JudgedWords
 pub mod JudgedLines
 pub mod TextCuts
 pub mod Refusals
+pub mod WritableWords
+pub mod HasTexts
 pub mod Closing
 pub mod Completing

@@ -1,5 +1,6 @@
 -- The one text that is written for a job, and jobs that differ in the spots of their lines alone.
-use Rattle.std.specs.Prelude.{◌≡◌, ℕ, List, [], ◌∷◌, ◌++◌, map, codes, refl}
+use Rattle.std.specs.Prelude.{◌≡◌, ℕ, ◌≤◌, List, [], ◌∷◌, ◌++◌, map, length, codes, refl}
+use Rattle.std.specs.List.{AllByRecursion}
 use Rattle.fx_script.specs.declared.job.Callback.{Callback}
 use Rattle.fx_script.specs.declared.job.Decl.{Decl}
 use Rattle.fx_script.specs.declared.job.Decl.TheVariants as decl
@@ -10,7 +11,7 @@ use Rattle.fx_script.specs.declared.job.Stmt.TheVariants as stmt
 use Rattle.fx_script.specs.declared.job.Stmt.TheOpen.{Stmt-F}
 use Rattle.fx_script.specs.declared.job.Stmt.TheFolds.{fold-Stmt}
 use Rattle.fx_script.specs.Moves.{nowhere}
-use Rattle.fx_script.specs.Spelling.{Entry, chained, job_entries, Spells}
+use Rattle.fx_script.specs.Spelling.{Entry, chained, job_entries, IsWritable, Spells}
 
 -- ---- the text
 
@@ -94,6 +95,15 @@ pub record HasText (job : Job) : Type 0 where
   pub told : Job
   pub spelled : Spells text told
   pub same : without_spots told ≡ without_spots job
+
+-- the lines of its canonical text have at most 1,024 bytes each
+abbrev pub HasShortLines : Job → Type 0
+HasShortLines job = AllByRecursion (λ e. length (line_of e.words) ≤ 1024) (job_entries job)
+
+-- a job that can be written, in lines that aren't too long
+pub record CanBeWritten (job : Job) : Type 0 where
+  pub writable : IsWritable job
+  pub short : HasShortLines job
 
 -- a text spells a job and, spots aside, no other
 pub record SpellsAlone (text : List ℕ) (job : Job) : Type 0 where

@@ -3,7 +3,7 @@
 ghost use Rattle.std.specs.Prelude.{◌≡◌, ◌↔◌, ℕ, ◌-◌, List, take, Ok, Err};
 ghost use Rattle.fx_text.specs.Lines.{Line, lines_of};
 ghost use Rattle.fx_script.specs.declared.job.Job.{Job};
-ghost use Rattle.fx_script.specs.Canonical.{canonical, without_spots, HasText, SpellsAlone};
+ghost use Rattle.fx_script.specs.Canonical.{canonical, without_spots, HasText, CanBeWritten, SpellsAlone};
 ghost use Rattle.fx_script.specs.Reading.{Refusal, job_in, sound};
 ghost use Rattle.fx_script.specs.Refused.{behind_ends, in_front_of, refused_through, GoesOnAtLength, GoesOnBehind, IsRefusedForWords};
 ghost use Rattle.fx_script.specs.SaidLines.{lines_joined, AreTextLines, IsSound};
@@ -55,4 +55,9 @@ pub fn the_lines_in_front_of_a_refused_one_go_on()
 /// the length of its lines.
 pub fn a_text_goes_on_up_to_a_refused_word()
     ensures { (text : List ℕ) (r : Refusal) → job_in text ≡ Err r → IsRefusedForWords text r → GoesOnAtLength text (in_front_of text r.spot) }
+{}
+
+/// The jobs that have a text are exactly those that can be written in lines of at most 1,024 bytes.
+pub fn the_jobs_that_have_a_text()
+    ensures { (job : Job) → HasText job ↔ CanBeWritten job }
 {}
