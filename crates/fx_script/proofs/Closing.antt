@@ -1,5 +1,5 @@
 -- From each draft some lines lead to a whole job; so the lines in front of a refused one go on.
-use Rattle.std.proofs.Common.{◌≡◌, ℕ, zero, suc, ◌+◌, ◌-◌, ◌≤◌, Bool, true, false, leb, List, [], ◌∷◌, ◌++◌, map, length, take, drop, Option, Some, None, Result, Ok, Err, refl, sym, ap, subst, ◌∙◌, append_assoc, length-append, arith, inl, inr}
+use Rattle.std.proofs.Common.{◌≡◌, ℕ, suc, ◌+◌, ◌-◌, ◌≤◌, true, leb, List, [], ◌∷◌, ◌++◌, map, length, take, None, Result, Ok, Err, refl, sym, ap, subst, ◌∙◌, append_assoc, length-append, arith, inl, inr}
 use Rattle.std.specs.Prelude.{pos, codes}
 use Rattle.std.specs.List.{AllByRecursion, list_all}
 use Rattle.std.proofs.lemmas.Bool.{leb-true}
@@ -27,7 +27,7 @@ use Rattle.fx_script.proofs.Adds.{dr}
 use Rattle.fx_script.proofs.CanonLines.{is_word, is_said, IsGoodLine, AreGoodLines, written, written_sound, text_lines}
 use Rattle.fx_script.proofs.FieldLemmas.{bind_ok, ok_is}
 use Rattle.fx_script.proofs.Found.{Shows, shows_taken, met_append}
-use Rattle.fx_script.proofs.Refusals.{at_line_err, at_number, cut_whole, draft_err, ended_is, run_line}
+use Rattle.fx_script.proofs.Refusals.{at_line_err, cut_whole, draft_err, ended_is, run_line}
 use Rattle.fx_script.proofs.Sound.{is_sound}
 use Rattle.fx_script.proofs.Spelled.{whole, nothing_read}
 use Rattle.fx_script.proofs.TextCuts.{Cut, cut, ended_first, behind_line, behind_none, no_lines}

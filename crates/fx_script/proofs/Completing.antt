@@ -1,5 +1,5 @@
 -- Some text goes on that agrees with a refused one up to before the refused word.
-use Rattle.std.proofs.Common.{◌≡◌, ℕ, zero, suc, ◌+◌, ◌-◌, ◌≤◌, Bool, true, List, [], ◌∷◌, ◌++◌, map, length, take, drop, Option, Some, None, IfSome, Result, Ok, Err, refl, sym, ap, subst, ◌∙◌, append_assoc, length-append, arith, inl, inr}
+use Rattle.std.proofs.Common.{◌≡◌, ℕ, suc, ◌+◌, ◌-◌, true, List, [], ◌∷◌, ◌++◌, map, length, take, drop, IfSome, Ok, Err, refl, sym, ap, subst, ◌∙◌, append_assoc, length-append, arith, inl, inr}
 use Rattle.std.specs.List.{AllByRecursion, list_all}
 use Rattle.std.proofs.lemmas.Bool.{and_parts}
 use Rattle.std.proofs.lemmas.List.{append-nil, take-append-drop, length-take-le}
@@ -9,9 +9,7 @@ use Rattle.fx_text.specs.Checks.{is_printable}
 use Rattle.fx_text.specs.Lines.{Line, lines_of}
 use Rattle.fx_text.specs.Words.{Word, words_from, words_of}
 use Rattle.fx_script.specs.declared.draft.Draft.{Draft}
-use Rattle.fx_script.specs.declared.draft.Stage.TheVariants as stage
 use Rattle.fx_script.specs.declared.refusal.Wrong.{Wrong}
-use Rattle.fx_script.specs.Outcome.{◌>>=◌}
 use Rattle.fx_script.specs.Canonical.{spaced, text_of}
 use Rattle.fx_script.specs.Moves.{empty_draft}
 use Rattle.fx_script.specs.Reading.{Refusal, sound, taken, line_taken, run, reading, job_in}
@@ -22,7 +20,7 @@ use Rattle.fx_script.proofs.CanonLines.{is_word, both_printable, spaced_printabl
 use Rattle.fx_script.proofs.Closing.{closing, passed, closes, closing_goes, closing_such, Continues, continues_here, continues_by, continues_on, behind_first, passes}
 use Rattle.fx_script.proofs.FieldLemmas.{bind_ok}
 use Rattle.fx_script.proofs.Judged.{bind_err}
-use Rattle.fx_script.proofs.Refusals.{TakenGoesOn, TakenStops, taken_stops, at_line_err, cut_whole, draft_err, finished_err, missing, run_line}
+use Rattle.fx_script.proofs.Refusals.{TakenGoesOn, TakenStops, taken_stops, at_line_err, cut_whole, draft_err, finished_err, run_line}
 use Rattle.fx_script.proofs.Sound.{is_sound, sound_passes}
 use Rattle.fx_script.proofs.TextCuts.{ending, Cut, cut, word_cut, words_behind, behind_none, no_lines}
 

@@ -1,5 +1,5 @@
 -- A job has a text exactly where it can be written and its canonical lines are short.
-use Rattle.std.proofs.Common.{◌≡◌, ℕ, zero, suc, ◌≤◌, Bool, true, ◌&&◌, List, [], ◌∷◌, ◌++◌, map, length, Option, Some, None, refl, sym, ap, subst, ◌∙◌}
+use Rattle.std.proofs.Common.{◌≡◌, ℕ, ◌≤◌, Bool, true, ◌&&◌, List, [], ◌∷◌, map, length, Some, None, refl, sym, ap, subst, ◌∙◌}
 use Rattle.std.specs.List.{AllByRecursion, list_all}
 use Rattle.fx_script.specs.declared.job.Callback.{Callback}
 use Rattle.fx_script.specs.declared.job.Decl.{Decl}
@@ -11,11 +11,11 @@ use Rattle.fx_script.specs.declared.job.Stmt.TheOpen.{Stmt-F}
 use Rattle.fx_script.specs.declared.job.Stmt.TheViews.{roll-Stmt}
 use Rattle.fx_script.specs.declared.job.Stmt.TheFolds.{fold-roll-Stmt, map-Stmt, ind-Stmt}
 use Rattle.fx_text.specs.Lines.{lines_of}
-use Rattle.fx_script.specs.Canonical.{line_of, canonical, stmt_without_spots_level, stmt_without_spots, decl_without_spot, callback_without_spots, event_without_spot, without_spots, HasText, HasShortLines, CanBeWritten}
+use Rattle.fx_script.specs.Canonical.{line_of, canonical, stmt_without_spots_level, stmt_without_spots, decl_without_spot, callback_without_spots, event_without_spot, without_spots, HasText, CanBeWritten}
 use Rattle.fx_script.specs.Moves.{nowhere}
 use Rattle.fx_script.specs.Names.{is_name}
-use Rattle.fx_script.specs.Spelling.{Entry, job_entries, opening_fits, stmt_fits_level, stmt_fits, stmts_fit, list_fits, decl_fits, callback_fits, event_fits, IsWritable, Spells}
-use Rattle.fx_script.proofs.CanonLines.{IsGoodLine, AreGoodLines, lines_good, text_sound, text_placed}
+use Rattle.fx_script.specs.Spelling.{Entry, job_entries, opening_fits, stmt_fits_level, stmt_fits, stmts_fit, list_fits, decl_fits, callback_fits, event_fits, IsWritable}
+use Rattle.fx_script.proofs.CanonLines.{AreGoodLines, lines_good, text_sound, text_placed}
 use Rattle.fx_script.proofs.Respotted.{moved_to, without_spots_rolls, Way, list_way, stmt_way, decl_way, callback_way, event_way, said, job_says, blocks_fit, Respotted, job_respotted}
 use Rattle.fx_script.proofs.WritableWords.{AreFine, job_fine}
 

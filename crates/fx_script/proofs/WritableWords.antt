@@ -1,19 +1,16 @@
 -- The lines of a job that can be written are made of words, and say something.
-use Rattle.std.proofs.Common.{◌≡◌, ℕ, zero, suc, ◌+◌, ◌≤◌, Bool, true, false, not, eqb, leb, ◌&&◌, List, [], ◌∷◌, ◌++◌, map, length, slice_index, Option, Some, None, Result, Ok, Err, refl, sym, ap, subst, ◌∙◌, arith, inl, inr}
+use Rattle.std.proofs.Common.{◌≡◌, ℕ, zero, suc, ◌≤◌, Bool, true, false, not, eqb, leb, ◌&&◌, List, [], ◌∷◌, ◌++◌, map, length, slice_index, Some, None, Ok, refl, sym, ap, subst, ◌∙◌, arith, inl, inr}
 use Rattle.std.specs.Prelude.{ℤ, codes}
 use Rattle.std.specs.Fmt.{signed_decimal}
 use Rattle.std.specs.List.{AllByRecursion, list_all}
-use Rattle.std.proofs.lemmas.Bool.{cases_Bool, and_from, and_parts, leb-true, le-leb, ne_eqb, eqb-true, or_parts}
-use Rattle.std.proofs.lemmas.List.Folds.{list_all-append, list_all-map}
-use Rattle.fx_base.specs.declared.names.Op.{Op}
+use Rattle.std.proofs.lemmas.Bool.{cases_Bool, and_from, and_parts, leb-true, le-leb, ne_eqb, eqb-true}
+use Rattle.std.proofs.lemmas.List.Folds.{list_all-append}
 use Rattle.fx_base.specs.declared.names.Op.TheVariants as op
-use Rattle.fx_base.specs.declared.names.Role.{Role}
 use Rattle.fx_base.specs.declared.names.Role.TheVariants as role
 use Rattle.fx_text.specs.Checks.{is_printable}
-use Rattle.fx_text.specs.Numbers.{is_digit, is_natural, is_positive, fits_64, within_64, natural_in, negative_in, number_in}
+use Rattle.fx_text.specs.Numbers.{is_digit, is_natural, is_positive, fits_64, natural_in, negative_in, number_in}
 use Rattle.fx_text.proofs.NumberLemmas.{number_again}
 use Rattle.fx_script.specs.declared.expr.Expr.{Expr}
-use Rattle.fx_script.specs.declared.expr.Expr.TheVariants as expr
 use Rattle.fx_script.specs.declared.expr.Expr.TheOpen.{Expr-F}
 use Rattle.fx_script.specs.declared.expr.Expr.TheViews.{roll-Expr}
 use Rattle.fx_script.specs.declared.expr.Expr.TheFolds.{fold-roll-Expr, map-Expr, ind-Expr}
@@ -34,7 +31,7 @@ use Rattle.fx_script.specs.declared.job.Test.{Test}
 use Rattle.fx_script.specs.declared.job.Test.TheVariants as test
 use Rattle.fx_script.specs.Exprs.{words_of_level, expr_words, writable_level, is_writable_expr}
 use Rattle.fx_script.specs.Names.{is_letter, is_letter_or_digit, begins_with_letter, is_reserved, is_name}
-use Rattle.fx_script.specs.Spelling.{Entry, kept_at, anywhere, role_text, test_text, op_text, pairs_words, picked_words, event_words, opening, chained, stmt_level, stmt_entries, stmts_entries, decl_entry, callback_entries, event_entry, heading, job_entries, pair_fits, picked_fits, opening_fits, stmt_fits_level, stmt_fits, stmts_fit, decl_fits, callback_fits, event_fits, IsWritable}
+use Rattle.fx_script.specs.Spelling.{Entry, kept_at, anywhere, test_text, pairs_words, picked_words, event_words, opening, chained, stmt_level, stmt_entries, stmts_entries, decl_entry, callback_entries, event_entry, heading, job_entries, pair_fits, picked_fits, opening_fits, stmt_fits_level, stmt_fits, stmts_fit, decl_fits, callback_fits, event_fits, IsWritable}
 use Rattle.fx_script.proofs.CanonLines.{is_word_byte, is_word, is_said}
 
 -- ---- words

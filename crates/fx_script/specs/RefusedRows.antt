@@ -1,9 +1,8 @@
 -- Worked rows: where texts are refused, and how much of each is refused with it, by computation.
-use Rattle.std.specs.Prelude.{◌≡◌, ℕ, zero, suc, List, [], ◌∷◌, ◌++◌, codes, Result, Ok, Err, refl}
-use Rattle.fx_script.specs.declared.job.Job.{Job}
+use Rattle.std.specs.Prelude.{◌≡◌, ℕ, zero, suc, List, [], ◌∷◌, ◌++◌, codes, refl}
 use Rattle.fx_script.specs.declared.refusal.JobFault.TheVariants.{NotAscii, LineTooLong, BadLine}
-use Rattle.fx_script.specs.Reading.{Refusal, job_in}
-use Rattle.fx_script.specs.Refused.{in_front_of, refused_through}
+use Rattle.fx_script.specs.Reading.{job_in}
+use Rattle.fx_script.specs.Refused.{refused_through}
 use Rattle.fx_script.specs.Rows.{text, at, refused}
 
 -- so many times the same

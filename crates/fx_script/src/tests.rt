@@ -56,7 +56,7 @@ const EVENTS: &str = "fenix 1|ranks 1|spares 0|separation 1|begin|end|schedule|"
 const STOPPED: &str = "fenix 1|ranks 1|spares 0|separation 1|begin|end|schedule|stop|";
 
 // Lines in front, the lines that are tried, lines behind, and the refusal that is due.
-const REFUSED: [(&str, &str, &str, JobFault, u32, u32); 102] = [
+static REFUSED: [(&str, &str, &str, JobFault, u32, u32); 102] = [
     ("", "\tfenix 1|", "", NotAscii, 1, 1),
     ("", "fenix 2\r|", "", NotAscii, 1, 8),
     ("", "fenix 1|# é|", "", NotAscii, 2, 3),
@@ -169,7 +169,7 @@ const REFUSED: [(&str, &str, &str, JobFault, u32, u32); 102] = [
 ];
 
 // Lines in front, what is repeated, how often, lines behind, and the refusal, if one is due.
-const REPEATED: [(&str, &str, u32, &str, Option<(JobFault, u32, u32)>); 7] = [
+static REPEATED: [(&str, &str, u32, &str, Option<(JobFault, u32, u32)>); 7] = [
     ("", "#", 1024, "|", Some((MissingPart, 2, 1))),
     ("", "#", 1025, "|", Some((LineTooLong, 1, 1025))),
     (BODY, "if lt 0 1|", 64, "", Some((MissingPart, 72, 1))),
@@ -240,7 +240,7 @@ fn a_job_of_every_kind_of_line_is_printed(rt: HostRuntime) -> Result<(), Fail> {
 
 #[test]
 fn texts_are_refused(rt: HostRuntime) -> Result<(), Fail> {
-    for (before, lines, behind, fault, line, column) in REFUSED {
+    for (before, lines, behind, fault, line, column) in REFUSED.iter().copied() {
         let answer = answer(&rt, rt.alloc(), before, lines, 1, behind)?;
         assert_eq!(rt; answer, Some((fault, Spot { line, column })), "at {lines}");
     }
@@ -249,7 +249,7 @@ fn texts_are_refused(rt: HostRuntime) -> Result<(), Fail> {
 
 #[test]
 fn limits_are_kept(rt: HostRuntime) -> Result<(), Fail> {
-    for (before, lines, times, behind, told) in REPEATED {
+    for (before, lines, times, behind, told) in REPEATED.iter().copied() {
         let answer = answer(&rt, rt.alloc(), before, lines, times, behind)?;
         let expected = match told {
             Some((fault, line, column)) => Some((fault, Spot { line, column })),
