@@ -46,22 +46,24 @@ use Rattle.fx_script.specs.declared.refusal.Wrong.{Wrong}
 use Rattle.fx_script.specs.Left.{Left}
 use Rattle.fx_script.specs.Exprs.{is_writable_expr}
 use Rattle.fx_script.specs.Heads.{head_at}
-use Rattle.fx_script.specs.Keywords.{part_text, edge_text, simple_text, event_text, text_of, keyword_of}
+use Rattle.fx_script.specs.Keywords.{part_text, edge_text, simple_text, event_text, keyword_text, keyword_of}
 use Rattle.fx_script.specs.Moves.{empty_draft, empty_job, no_callback, part_moved, edge_moved, moved}
 use Rattle.fx_script.specs.Names.{is_name}
-use Rattle.fx_script.specs.Reading.{Met, met_in, spot_of, sound, head_placed, head_in, taken, run}
-use Rattle.fx_script.specs.Spelling.{Entry, kept_at, anywhere, chained, words_in, IsLine, AreLines, if_met, met_from, IsSound, event_words, event_fits, stmt_entries, stmts_entries, opening_fits, stmt_fits_level, stmt_fits, stmts_fit, decl_entry, decl_fits, callback_entries, callback_fits, event_entry, heading, job_entries, IsWritable}
-use Rattle.fx_script.specs.Stands.{may_stand, is_inside, is_scheduled, part_stands, edge_stands}
+use Rattle.fx_script.specs.Reading.{sound, head_placed, head_in, taken, run}
+use Rattle.fx_script.specs.SaidLines.{Met, met_in, spot_of, if_met, met_from, IsSound}
+use Rattle.fx_script.specs.Spelling.{Entry, kept_at, anywhere, chained, words_in, IsLine, AreLines, event_words, event_fits, stmt_entries, stmts_entries, opening_fits, stmt_fits_level, stmt_fits, stmts_fit, decl_entry, decl_fits, callback_entries, callback_fits, event_entry, heading, job_entries, IsWritable}
+use Rattle.fx_script.specs.Order.{may_stand, is_inside, is_scheduled, part_stands, edge_stands}
 use Rattle.fx_script.proofs.SoFar.{part_line, edge_line}
 use Rattle.fx_script.proofs.Adds.{dr}
 use Rattle.fx_script.proofs.FieldLemmas.{texts, end_again}
 use Rattle.fx_script.proofs.HeadLemmas.{part_word_in, part_fields, part_fits, part_again, edge_word_in, edge_fields, edge_fits, edge_again, event_word_in, event_fields, event_again, event_words_is}
 use Rattle.fx_script.proofs.SimpleLemmas
+use Rattle.fx_script.proofs.Sound.{sound_passes}
 
 -- ---- keywords
 
 -- each keyword is read from its word
-keyword_again : (keyword : Keyword) → keyword_of (text_of keyword) ≡ Some keyword
+keyword_again : (keyword : Keyword) → keyword_of (keyword_text keyword) ≡ Some keyword
 keyword_again (k.Edge edge_word.Else) = refl
 keyword_again (k.Edge edge_word.EndFor) = refl
 keyword_again (k.Edge edge_word.EndIf) = refl
@@ -148,7 +150,7 @@ abbrev pub Step : Draft → Entry → Draft → Type 0
 Step d e next = (m : Met) → IsLine m e → taken d (Some m) ≡ Ok next
 
 -- a line with this keyword and these words behind it, which are read as this head
-line_again : (d : Draft) (m : Met) (keyword : Keyword) (h : Head) → m.first.bytes ≡ text_of keyword → may_stand d.stage d.blocks keyword ≡ true → head_at keyword (spot_of m) m.left ≡ Ok h
+line_again : (d : Draft) (m : Met) (keyword : Keyword) (h : Head) → m.first.bytes ≡ keyword_text keyword → may_stand d.stage d.blocks keyword ≡ true → head_at keyword (spot_of m) m.left ≡ Ok h
     → taken d (Some m) ≡ Ok (moved d (spot_of m) h)
 line_again d m keyword h is may read =
     let word : keyword_of m.first.bytes ≡ Some keyword = ap keyword_of is ∙ keyword_again keyword in
@@ -556,5 +558,5 @@ pub run_again : (lines : List Line) (number : ℕ) (d : Draft) (es : List Entry)
 run_again [] number d [] last stopped fine all leads = rw (leads, stopped) refl
 run_again [] number d (e ∷ es) last stopped fine all leads = absurd all
 run_again (l ∷ ls) number d es last stopped fine all leads =
-    again_by (met_in number l.bytes) l ls number d es last fine.0
+    again_by (met_in number l.bytes) l ls number d es last (sound_passes l fine.0)
     (λ next more lines then. run_again ls (number + 1) next more last stopped fine.1 lines then) refl all leads

@@ -1,19 +1,16 @@
 -- The canonical text of a job that some text spells has the job's lines, one after another.
-use Rattle.std.proofs.Common.{◌≡◌, IfSome, ℕ, ◌+◌, ◌≤◌, Bool, true, false, not, eqb, ltb, leb, ◌&&◌, List, [], ◌∷◌, ◌++◌, map, length, slice_index, Option, Some, None, Result, Ok, Err, refl, ap, subst, ◌∙◌, arith, inl, inr}
-use Rattle.std.specs.List.{AllByRecursion, list_all, position, position_or_len}
-use Rattle.std.proofs.lemmas.Bool.{cases_Bool, and_from, and_parts, not_from_false, not-true, leb-true, ltb-false, le-ltb, ne_eqb}
+use Rattle.std.proofs.Common.{◌≡◌, IfSome, ℕ, ◌+◌, ◌≤◌, Bool, true, false, not, eqb, leb, ◌&&◌, List, [], ◌∷◌, ◌++◌, map, length, slice_index, Option, Some, None, refl, ap, subst, ◌∙◌, arith, inl, inr}
+use Rattle.std.specs.List.{AllByRecursion, list_all}
+use Rattle.std.proofs.lemmas.Bool.{cases_Bool, and_from, and_parts, not_from_false, not-true, leb-true, ne_eqb}
 use Rattle.std.proofs.lemmas.List.Folds.{list_all-append}
 use Rattle.fx_base.specs.declared.spot.Spot.{Spot}
-use Rattle.fx_text.specs.declared.check.LineFault.{LineFault}
-use Rattle.fx_text.specs.declared.check.LineFault.TheVariants as line_fault
-use Rattle.fx_text.specs.Checks.{is_printable, fault_at, checked}
+use Rattle.fx_text.specs.Checks.{is_printable}
 use Rattle.fx_text.specs.Lines.{Line, in_front, lines_of}
 use Rattle.fx_text.specs.Words.{Word, begins_word, longer, words_from, words_of}
-use Rattle.fx_text.proofs.Positions.{found_nowhere}
 use Rattle.fx_script.specs.declared.job.Job.{Job}
 use Rattle.fx_script.specs.Comments.{is_comment}
-use Rattle.fx_script.specs.Reading.{Met, met_of, met_in, spot_of, soundness}
-use Rattle.fx_script.specs.Spelling.{Entry, job_entries, bytes_of, IsLine, AreLines, if_met, met_from, IsSound, IsWritable, Spells}
+use Rattle.fx_script.specs.SaidLines.{Met, met_of, met_in, spot_of, if_met, met_from, IsSound}
+use Rattle.fx_script.specs.Spelling.{Entry, job_entries, bytes_of, IsLine, AreLines, IsWritable, Spells}
 use Rattle.fx_script.specs.Canonical.{spaced, line_of, text_of, canonical}
 use Rattle.fx_script.proofs.Placed.{spot_at, placed, placed_from}
 
@@ -44,7 +41,7 @@ abbrev pub AreGoodLines : List Entry → Type 0
 AreGoodLines es = AllByRecursion (λ e. IsGoodLine e.words) es
 
 -- a word's bytes
-word_bytes : (w : List ℕ) → is_word w ≡ true → list_all is_word_byte w ≡ true
+pub word_bytes : (w : List ℕ) → is_word w ≡ true → list_all is_word_byte w ≡ true
 word_bytes [] e = absurd cc
 word_bytes (b ∷ bs) e = e
 
@@ -58,7 +55,7 @@ longer_words c b (w ∷ ws) byte good =
     and_from (is_word (b ∷ w.bytes)) (list_all is_word (map bytes_of ws)) (and_from (is_word_byte b) (list_all is_word_byte w.bytes) byte (word_bytes w.bytes parts.0)) parts.1
 
 -- the words of a printable line are words
-words_good : (c : ℕ) (line : List ℕ) → list_all is_printable line ≡ true → list_all is_word (map bytes_of (words_from c line)) ≡ true
+pub words_good : (c : ℕ) (line : List ℕ) → list_all is_printable line ≡ true → list_all is_word (map bytes_of (words_from c line)) ≡ true
 words_good c [] p = refl
 words_good c (b ∷ bs) p =
     let parts = and_parts (is_printable b) (list_all is_printable bs) p in
@@ -103,48 +100,6 @@ words_within c (b ∷ d ∷ ds) = elim (cases_Bool (eqb b 32)) [
   ]
 ]
 
--- ---- lines that pass their check
-
--- where no byte is unprintable, each is printable
-abbrev is_unprintable : ℕ → Bool
-is_unprintable b = not (is_printable b)
-
-none_unprintable : (line : List ℕ) → position_or_len is_unprintable line ≡ length line → list_all is_printable line ≡ true
-none_unprintable [] e = refl
-none_unprintable (b ∷ bs) e = elim (cases_Bool (is_printable b)) [
-  | inl t ↦ let more : 1 + position_or_len is_unprintable bs ≡ length (b ∷ bs) = rw t at e in rw t (none_unprintable bs (omega arith))
-  | inr f ↦ let none : 0 ≡ length (b ∷ bs) = rw f at e in absurd (omega arith)
-]
-
--- a line that passes is printable, and not too long
-fault_parts : (line : List ℕ) (o : Option ℕ) → position is_unprintable line ≡ o → fault_at o (length line) ≡ Ok tt → (list_all is_printable line ≡ true) × (length line ≤ 1024)
-fault_parts line None is e = elim (cases_Bool (ltb 1024 (length line))) [
-  | inl t ↦ let long = rw t at e in absurd cc
-  | inr f ↦ (none_unprintable line (found_nowhere is_unprintable line is), ltb-false 1024 (length line) f)
-]
-fault_parts line (Some place) is e = absurd cc
-
-checked_parts : (line : List ℕ) → checked line ≡ Ok tt → (list_all is_printable line ≡ true) × (length line ≤ 1024)
-checked_parts line e = fault_parts line (position is_unprintable line) refl e
-
--- a printable line that is not too long passes
-all_printable : (line : List ℕ) → list_all is_printable line ≡ true → position_or_len is_unprintable line ≡ length line
-all_printable [] e = refl
-all_printable (b ∷ bs) e =
-    let parts = and_parts (is_printable b) (list_all is_printable bs) e in
-    rw parts.0 (omega (arith, all_printable bs parts.1))
-
-checked_from : (line : List ℕ) → list_all is_printable line ≡ true → length line ≤ 1024 → checked line ≡ Ok tt
-checked_from line printable short =
-    let none : position is_unprintable line ≡ None = rw (le-ltb (position_or_len is_unprintable line) (length line) (omega (arith, all_printable line printable))) refl in
-    rw (none, le-ltb 1024 (length line) short) refl
-
--- a sound line passes
-sound_parts : (r : Result (Unit {0}) LineFault) (ended : Bool) (past : ℕ) → soundness r ended past ≡ Ok tt → r ≡ Ok tt
-sound_parts (Ok fine) ended past e = refl
-sound_parts (Err (line_fault.NotAscii column)) ended past e = absurd cc
-sound_parts (Err line_fault.TooLong) ended past e = absurd cc
-
 -- ---- what is met in sound lines
 
 -- what is met in one line is a good line, and so is what is met in the others
@@ -169,14 +124,13 @@ met_good number past (w ∷ ws) ms es good short lines rest = elim (cases_Bool (
 ]
 
 -- the entries of sound lines are good lines
-lines_good : (number : ℕ) (ls : List Line) (es : List Entry) → AllByRecursion IsSound ls → AreLines (met_from number ls) es → AreGoodLines es
+pub lines_good : (number : ℕ) (ls : List Line) (es : List Entry) → AllByRecursion IsSound ls → AreLines (met_from number ls) es → AreGoodLines es
 lines_good number [] [] sounds lines = tt
 lines_good number [] (e ∷ es) sounds lines = absurd lines
 lines_good number (l ∷ ls) es sounds lines =
-    let parts = checked_parts l.bytes (sound_parts (checked l.bytes) l.ended (length l.bytes + 1) sounds.0) in
     met_good number (length l.bytes + 1) (words_of l.bytes) (met_from (number + 1) ls) es
-    (words_good 1 l.bytes parts.0)
-    (omega (arith, words_within 1 l.bytes, parts.1))
+    (words_good 1 l.bytes sounds.0.printable)
+    (omega (arith, words_within 1 l.bytes, sounds.0.short))
     lines
     (λ others. lines_good (number + 1) ls others sounds.1)
 
@@ -190,10 +144,10 @@ word_printable (b ∷ bs) e =
     let byte = and_parts (is_printable b) (not (eqb b 32)) parts.0 in
     and_from (is_printable b) (list_all is_printable bs) byte.0 (word_printable bs parts.1)
 
-both_printable : (a b : List ℕ) → list_all is_printable a ≡ true → list_all is_printable b ≡ true → list_all is_printable (a ++ b) ≡ true
+pub both_printable : (a b : List ℕ) → list_all is_printable a ≡ true → list_all is_printable b ≡ true → list_all is_printable (a ++ b) ≡ true
 both_printable a b first second = list_all-append is_printable a b ∙ and_from (list_all is_printable a) (list_all is_printable b) first second
 
-spaced_printable : (ws : List (List ℕ)) → list_all is_word ws ≡ true → list_all is_printable (spaced ws) ≡ true
+pub spaced_printable : (ws : List (List ℕ)) → list_all is_word ws ≡ true → list_all is_printable (spaced ws) ≡ true
 spaced_printable [] e = refl
 spaced_printable (w ∷ ws) e =
     let parts = and_parts (is_word w) (list_all is_word ws) e in
@@ -229,7 +183,7 @@ none_begins [] = refl
 none_begins (w ∷ ws) = refl
 
 -- the words behind spaces
-words_spaced : (c : ℕ) (ws : List (List ℕ)) → list_all is_word ws ≡ true → map bytes_of (words_from c (spaced ws)) ≡ ws
+pub words_spaced : (c : ℕ) (ws : List (List ℕ)) → list_all is_word ws ≡ true → map bytes_of (words_from c (spaced ws)) ≡ ws
 words_spaced c [] e = refl
 words_spaced c (w ∷ ws) e =
     let parts = and_parts (is_word w) (list_all is_word ws) e in
@@ -243,7 +197,7 @@ printable_ends_not b e =
     let parts = and_parts (leb 32 b) (leb b 126) e in
     ne_eqb b 10 (λ same. omega (arith, leb-true 32 b parts.0, same))
 
-line_ended : (line rest : List ℕ) → list_all is_printable line ≡ true
+pub line_ended : (line rest : List ℕ) → list_all is_printable line ≡ true
     → lines_of ((line ++ 10 ∷ []) ++ rest) ≡ record { bytes = line; ended = true } ∷ lines_of rest
 line_ended [] rest e = refl
 line_ended (b ∷ bs) rest e =
@@ -255,7 +209,7 @@ abbrev pub written : Entry → Line
 written e = record { bytes = line_of e.words; ended = true }
 
 -- the lines of a text of entries are the entries' lines
-text_lines : (es : List Entry) → AreGoodLines es → lines_of (text_of es) ≡ map written es
+pub text_lines : (es : List Entry) → AreGoodLines es → lines_of (text_of es) ≡ map written es
 text_lines [] good = refl
 text_lines (e ∷ es) good =
     line_ended (line_of e.words) (text_of es) (line_printable e.words good.0.words) ∙ ap (λ (ls : List Line). written e ∷ ls) (text_lines es good.1)
@@ -263,9 +217,9 @@ text_lines (e ∷ es) good =
 -- ---- what these lines say
 
 -- they are sound
-written_sound : (es : List Entry) → AreGoodLines es → AllByRecursion IsSound (map written es)
+pub written_sound : (es : List Entry) → AreGoodLines es → AllByRecursion IsSound (map written es)
 written_sound [] good = tt
-written_sound (e ∷ es) good = (rw (checked_from (line_of e.words) (line_printable e.words good.0.words) good.0.short) refl, written_sound es good.1)
+written_sound (e ∷ es) good = (record { printable = line_printable e.words good.0.words; short = good.0.short; ended = refl }, written_sound es good.1)
 
 -- what is met in a line of words
 abbrev met_first : ℕ → List ℕ → List (List ℕ) → Met
@@ -297,10 +251,10 @@ written_placed n [] good = tt
 written_placed n (e ∷ es) good = met_placed n e.spot e.words (met_from (n + 1) (map written es)) (placed_from (n + 1) es) good.0 (written_placed (n + 1) es good.1)
 
 -- the same of the text
-text_sound : (es : List Entry) → AreGoodLines es → AllByRecursion IsSound (lines_of (text_of es))
+pub text_sound : (es : List Entry) → AreGoodLines es → AllByRecursion IsSound (lines_of (text_of es))
 text_sound es good = rw (text_lines es good) (written_sound es good)
 
-text_placed : (es others : List Entry) → AreGoodLines es → others ≡ placed_from 1 es → AreLines (met_from 1 (lines_of (text_of es))) others
+pub text_placed : (es others : List Entry) → AreGoodLines es → others ≡ placed_from 1 es → AreLines (met_from 1 (lines_of (text_of es))) others
 text_placed es others good is = rw (text_lines es good, is) (written_placed 1 es good)
 
 -- the canonical text of a job that some text spells: it spells a job with the same lines, each with the spot that it has there

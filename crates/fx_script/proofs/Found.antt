@@ -31,17 +31,19 @@ use Rattle.fx_script.specs.Outcome.{◌>>=◌}
 use Rattle.fx_script.specs.Left.{Left}
 use Rattle.fx_script.specs.Fields.{misfit, end_at}
 use Rattle.fx_script.specs.Heads.{part_at, edge_at, event_at, head_at}
-use Rattle.fx_script.specs.Keywords.{part_text, edge_text, simple_text, event_text, text_of, keywords, keyword_of}
+use Rattle.fx_script.specs.Keywords.{part_text, edge_text, simple_text, event_text, keyword_text, keywords, keyword_of}
 use Rattle.fx_script.specs.Moves.{moved}
-use Rattle.fx_script.specs.Reading.{Met, Refusal, met_in, spot_of, sound, head_placed, head_in, taken, line_taken, at_line, finished, and_then, run}
-use Rattle.fx_script.specs.Spelling.{Entry, kept_at, event_words, words_in, IsLine, AreLines, if_met, met_from, IsSound}
-use Rattle.fx_script.specs.Stands.{may_stand, is_inside, is_scheduled, part_stands, edge_stands}
+use Rattle.fx_script.specs.Reading.{Refusal, sound, head_placed, head_in, taken, line_taken, at_line, finished, and_then, run}
+use Rattle.fx_script.specs.SaidLines.{Met, met_in, spot_of, if_met, met_from, IsSound}
+use Rattle.fx_script.specs.Spelling.{Entry, kept_at, event_words, words_in, IsLine, AreLines}
+use Rattle.fx_script.specs.Order.{may_stand, is_inside, is_scheduled, part_stands, edge_stands}
 use Rattle.fx_script.specs.Statements.{simple_at}
 use Rattle.fx_script.proofs.SoFar.{so_far, part_line, edge_line, IsFine}
 use Rattle.fx_script.proofs.Adds.{Adds, part_adds, edge_adds, simple_adds, event_adds}
 use Rattle.fx_script.proofs.FieldLemmas.{bind_ok, ok_is, texts, end_found}
 use Rattle.fx_script.proofs.HeadLemmas.{part_word_in, part_fields, PartRead, part_found, edge_word_in, edge_fields, EdgeRead, edge_found, event_word_in, event_fields, EventRead, event_found, event_words_is}
 use Rattle.fx_script.proofs.SimpleLemmas.{SimpleRead, simple_found}
+use Rattle.fx_script.proofs.Sound.{is_sound}
 
 -- ---- keywords
 
@@ -55,8 +57,8 @@ find_passes p (k ∷ ks) keyword e = elim (cases_Bool (p k)) [
   | inr f ↦ let s : find p ks ≡ Some keyword = rw f at e in find_passes p ks keyword s
 ]
 
-keyword_found : (word : List ℕ) (keyword : Keyword) → keyword_of word ≡ Some keyword → word ≡ text_of keyword
-keyword_found word keyword e = (bytes_eq-Decides word (text_of keyword)).0 (find_passes (λ k. bytes_eq word (text_of k)) keywords keyword e)
+keyword_found : (word : List ℕ) (keyword : Keyword) → keyword_of word ≡ Some keyword → word ≡ keyword_text keyword
+keyword_found word keyword e = (bytes_eq-Decides word (keyword_text keyword)).0 (find_passes (λ k. bytes_eq word (keyword_text k)) keywords keyword e)
 
 -- ---- one line
 
@@ -147,7 +149,7 @@ event_said d m word x is may fine f done = record {
   adds = event_adds d (spot_of m) x.0 may f.fits fine;
 }
 
-head_adds : (d : Draft) (m : Met) (keyword : Keyword) (h : Head) → m.first.bytes ≡ text_of keyword → may_stand d.stage d.blocks keyword ≡ true → IsFine d → head_at keyword (spot_of m) m.left ≡ Ok h → LineAdds d m h
+head_adds : (d : Draft) (m : Met) (keyword : Keyword) (h : Head) → m.first.bytes ≡ keyword_text keyword → may_stand d.stage d.blocks keyword ≡ true → IsFine d → head_at keyword (spot_of m) m.left ≡ Ok h → LineAdds d m h
 head_adds d m (k.Part word) h is may fine e =
     let r = reads_head (part_at word m.left) (λ p. head.Part p) h e in
     subst (LineAdds d m) r.is (part_said d m word r.value is may fine (part_found word m.left r.value r.read) r.end)
@@ -212,7 +214,7 @@ shows_taken seen d d' (Some m) shown e =
       fine = l.adds.fine;
     })
 
-met_append : (o : Option Met) (ms : List Met) (seen : List Met) → (seen ++ if_met o []) ++ ms ≡ seen ++ if_met o ms
+pub met_append : (o : Option Met) (ms : List Met) (seen : List Met) → (seen ++ if_met o []) ++ ms ≡ seen ++ if_met o ms
 met_append None ms seen = ap (λ (l : List Met). l ++ ms) (append-nil seen)
 met_append (Some m) ms seen = append_assoc seen (m ∷ []) ms
 
@@ -233,7 +235,7 @@ finished_found d d' number stage.Stopped e = (refl, refusal_ok d d' e)
 finished_found d d' number s e = absurd cc
 
 -- the draft behind a line that was read
-at_line_ok : (number : ℕ) (r : Result Draft Wrong) (f : Draft → Result Draft Refusal) (d' : Draft) → and_then (at_line number r) f ≡ Ok d' → (d : Draft) × (r ≡ Ok d) × (f d ≡ Ok d')
+pub at_line_ok : (number : ℕ) (r : Result Draft Wrong) (f : Draft → Result Draft Refusal) (d' : Draft) → and_then (at_line number r) f ≡ Ok d' → (d : Draft) × (r ≡ Ok d) × (f d ≡ Ok d')
 at_line_ok number (Ok d) f d' e = (d, refl, e)
 at_line_ok number (Err w) f d' e = absurd cc
 
@@ -248,6 +250,6 @@ run_found (l ∷ ls) d d' number seen e shown =
     let rest = run_found ls a.0 d' (number + 1) (seen ++ if_met (met_in number l.bytes) []) a.2 next in
     record {
       stopped = rest.stopped;
-      sound = (b.1, rest.sound);
+      sound = (is_sound l b.1, rest.sound);
       shown = subst (λ (ms : List Met). Shows ms d') (met_append (met_in number l.bytes) (met_from (number + 1) ls) seen) rest.shown;
     }

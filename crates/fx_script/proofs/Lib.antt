@@ -5,6 +5,7 @@ pub mod PickedLemmas
 pub mod SimpleLemmas
 pub mod HeadLemmas
 pub mod SoFar
+pub mod Sound
 pub mod Adds
 pub mod Found
 pub mod Again
@@ -18,3 +19,12 @@ pub mod CanonAlone
 pub mod PrintLemmas
 pub mod TextLemmas
 pub mod JobText
+pub mod Judged
+pub mod JudgedWords
+pub mod JudgedLines
+pub mod TextCuts
+pub mod Refusals
+pub mod WritableWords
+pub mod HasTexts
+pub mod Closing
+pub mod Completing

@@ -15,7 +15,7 @@ use Rattle.fx_script.specs.declared.job.Stmt.TheVariants as stmt
 use Rattle.fx_script.specs.declared.job.Stmt.TheOpen.{Stmt-F}
 use Rattle.fx_script.specs.declared.job.Stmt.TheViews.{roll-Stmt}
 use Rattle.fx_script.specs.declared.job.Stmt.TheFolds.{fold-roll-Stmt, map-Stmt, ind-Stmt}
-use Rattle.fx_script.specs.Canonical.{line_of, text_of, canonical, stmt_aside_level, stmt_aside, decl_aside, callback_aside, event_aside, aside}
+use Rattle.fx_script.specs.Canonical.{line_of, text_of, canonical, stmt_without_spots_level, stmt_without_spots, decl_without_spot, callback_without_spots, event_without_spot, without_spots}
 use Rattle.fx_script.specs.Moves.{nowhere}
 use Rattle.fx_script.specs.Names.{is_name}
 use Rattle.fx_script.specs.Spelling.{Entry, kept_at, anywhere, opening, opening_fits, chained, stmt_level, stmt_entries, stmts_entries, decl_entry, callback_entries, event_entry, heading, job_entries, list_fits, stmt_fits_level, stmt_fits, stmts_fit, decl_fits, callback_fits, event_fits, IsWritable}
@@ -43,25 +43,25 @@ moved_to at (Stmt-F.Restore spot group member stamp) = Stmt-F.Restore at group m
 moved_to at (Stmt-F.Drop spot group stamp) = Stmt-F.Drop at group stamp
 
 -- a spot put aside is a spot moved
-aside_rolls : (x : Stmt-F Stmt) → stmt_aside_level x ≡ roll-Stmt (moved_to nowhere x)
-aside_rolls (Stmt-F.Let spot array value) = sym (stmt.rolls-Let nowhere array value)
-aside_rolls (Stmt-F.Set spot counter value) = sym (stmt.rolls-Set nowhere counter value)
-aside_rolls (Stmt-F.Print spot name) = sym (stmt.rolls-Print nowhere name)
-aside_rolls (Stmt-F.Register spot name) = sym (stmt.rolls-Register nowhere name)
-aside_rolls (Stmt-F.RoleOnly spot role body) = sym (stmt.rolls-RoleOnly nowhere role body)
-aside_rolls (Stmt-F.Branch spot test left right body other) = sym (stmt.rolls-Branch nowhere test left right body other)
-aside_rolls (Stmt-F.Loop spot counter first last body) = sym (stmt.rolls-Loop nowhere counter first last body)
-aside_rolls (Stmt-F.Barrier spot) = sym (stmt.rolls-Barrier nowhere)
-aside_rolls (Stmt-F.Reduce spot op counter array) = sym (stmt.rolls-Reduce nowhere op counter array)
-aside_rolls (Stmt-F.Agree spot counter array index) = sym (stmt.rolls-Agree nowhere counter array index)
-aside_rolls (Stmt-F.Shift spot source target by) = sym (stmt.rolls-Shift nowhere source target by)
-aside_rolls (Stmt-F.Group spot group start depth) = sym (stmt.rolls-Group nowhere group start depth)
-aside_rolls (Stmt-F.Member spot group member array) = sym (stmt.rolls-Member nowhere group member array)
-aside_rolls (Stmt-F.Store spot group member subset) = sym (stmt.rolls-Store nowhere group member subset)
-aside_rolls (Stmt-F.Commit spot group) = sym (stmt.rolls-Commit nowhere group)
-aside_rolls (Stmt-F.CommitBarrier spot group) = sym (stmt.rolls-CommitBarrier nowhere group)
-aside_rolls (Stmt-F.Restore spot group member stamp) = sym (stmt.rolls-Restore nowhere group member stamp)
-aside_rolls (Stmt-F.Drop spot group stamp) = sym (stmt.rolls-Drop nowhere group stamp)
+pub without_spots_rolls : (x : Stmt-F Stmt) → stmt_without_spots_level x ≡ roll-Stmt (moved_to nowhere x)
+without_spots_rolls (Stmt-F.Let spot array value) = sym (stmt.rolls-Let nowhere array value)
+without_spots_rolls (Stmt-F.Set spot counter value) = sym (stmt.rolls-Set nowhere counter value)
+without_spots_rolls (Stmt-F.Print spot name) = sym (stmt.rolls-Print nowhere name)
+without_spots_rolls (Stmt-F.Register spot name) = sym (stmt.rolls-Register nowhere name)
+without_spots_rolls (Stmt-F.RoleOnly spot role body) = sym (stmt.rolls-RoleOnly nowhere role body)
+without_spots_rolls (Stmt-F.Branch spot test left right body other) = sym (stmt.rolls-Branch nowhere test left right body other)
+without_spots_rolls (Stmt-F.Loop spot counter first last body) = sym (stmt.rolls-Loop nowhere counter first last body)
+without_spots_rolls (Stmt-F.Barrier spot) = sym (stmt.rolls-Barrier nowhere)
+without_spots_rolls (Stmt-F.Reduce spot op counter array) = sym (stmt.rolls-Reduce nowhere op counter array)
+without_spots_rolls (Stmt-F.Agree spot counter array index) = sym (stmt.rolls-Agree nowhere counter array index)
+without_spots_rolls (Stmt-F.Shift spot source target by) = sym (stmt.rolls-Shift nowhere source target by)
+without_spots_rolls (Stmt-F.Group spot group start depth) = sym (stmt.rolls-Group nowhere group start depth)
+without_spots_rolls (Stmt-F.Member spot group member array) = sym (stmt.rolls-Member nowhere group member array)
+without_spots_rolls (Stmt-F.Store spot group member subset) = sym (stmt.rolls-Store nowhere group member subset)
+without_spots_rolls (Stmt-F.Commit spot group) = sym (stmt.rolls-Commit nowhere group)
+without_spots_rolls (Stmt-F.CommitBarrier spot group) = sym (stmt.rolls-CommitBarrier nowhere group)
+without_spots_rolls (Stmt-F.Restore spot group member stamp) = sym (stmt.rolls-Restore nowhere group member stamp)
+without_spots_rolls (Stmt-F.Drop spot group stamp) = sym (stmt.rolls-Drop nowhere group stamp)
 
 -- ---- the parts of a job, all seen in one way
 
@@ -76,16 +76,16 @@ abbrev pub list_way : {X R : Type 0} → Way X R → Way (List X) R
 list_way w = record { lines = λ xs. chained (map w.lines xs); bare = λ xs. map w.bare xs; fits = λ xs r. list_all (λ x. w.fits x r) xs }
 
 abbrev pub stmt_way : Way Stmt ℕ
-stmt_way = record { lines = stmt_entries; bare = stmt_aside; fits = stmt_fits }
+stmt_way = record { lines = stmt_entries; bare = stmt_without_spots; fits = stmt_fits }
 
 abbrev pub decl_way : Way Decl (Unit {0})
-decl_way = record { lines = λ d. decl_entry d ∷ []; bare = decl_aside; fits = λ d r. decl_fits d }
+decl_way = record { lines = λ d. decl_entry d ∷ []; bare = decl_without_spot; fits = λ d r. decl_fits d }
 
 abbrev pub callback_way : Way Callback (Unit {0})
-callback_way = record { lines = callback_entries; bare = callback_aside; fits = λ c r. callback_fits c }
+callback_way = record { lines = callback_entries; bare = callback_without_spots; fits = λ c r. callback_fits c }
 
 abbrev pub event_way : Way Event (Unit {0})
-event_way = record { lines = λ e. event_entry e ∷ []; bare = event_aside; fits = λ e r. event_fits e.kind }
+event_way = record { lines = λ e. event_entry e ∷ []; bare = event_without_spot; fits = λ e r. event_fits e.kind }
 
 -- where each part has one line
 single_lines : {X : Type 0} (f : X → Entry) (xs : List X) → chained (map (λ x. f x ∷ []) xs) ≡ map f xs
@@ -128,14 +128,14 @@ abbrev said_stmt : Stmt-F SaidStmt → Stmt-F Stmt
 said_stmt y = map-Stmt SaidStmt Stmt (λ t. t.0) y
 
 -- statements that say the same, in front of others that do
-said_before : (ts : List SaidStmt) (more rest : List Entry) → said more ≡ said rest → said (stmts_entries (map stmt_aside (map (λ t. t.0) ts)) ++ more) ≡ said (stmts_entries (map (λ t. t.0) ts) ++ rest)
+said_before : (ts : List SaidStmt) (more rest : List Entry) → said more ≡ said rest → said (stmts_entries (map stmt_without_spots (map (λ t. t.0) ts)) ++ more) ≡ said (stmts_entries (map (λ t. t.0) ts) ++ rest)
 said_before ts more rest same =
     let ss = map (λ (t : SaidStmt). t.0) ts in
-    said_append (stmts_entries (map stmt_aside ss)) more (stmts_entries ss) rest (said_in stmt_way ts) same
+    said_append (stmts_entries (map stmt_without_spots ss)) more (stmts_entries ss) rest (said_in stmt_way ts) same
 
 -- a statement whose spot is put aside says the same if the statements in it do
 said_level : (y : Stmt-F SaidStmt)
-    → said (stmt_level (map-Stmt Stmt (List Entry) stmt_entries (moved_to nowhere (map-Stmt Stmt Stmt stmt_aside (said_stmt y))))) ≡ said (stmt_level (map-Stmt Stmt (List Entry) stmt_entries (said_stmt y)))
+    → said (stmt_level (map-Stmt Stmt (List Entry) stmt_entries (moved_to nowhere (map-Stmt Stmt Stmt stmt_without_spots (said_stmt y))))) ≡ said (stmt_level (map-Stmt Stmt (List Entry) stmt_entries (said_stmt y)))
 said_level (Stmt-F.RoleOnly spot role ts) =
     let last = anywhere (codes "endwhen") ∷ [] in
     ap (λ (l : List (List (List ℕ))). (opening (Stmt-F.RoleOnly spot role ts)).words ∷ l) (said_before ts last last refl)
@@ -146,15 +146,15 @@ said_level (Stmt-F.Branch spot test left right ts None) =
     let last = anywhere (codes "endif") ∷ [] in
     let ss = map (λ (t : SaidStmt). t.0) ts in
     ap (λ (l : List (List (List ℕ))). (opening (Stmt-F.Branch spot test left right ts None)).words ∷ l)
-    (said_append (stmts_entries (map stmt_aside ss) ++ []) last (stmts_entries ss ++ []) last (said_before ts [] [] refl) refl)
+    (said_append (stmts_entries (map stmt_without_spots ss) ++ []) last (stmts_entries ss ++ []) last (said_before ts [] [] refl) refl)
 said_level (Stmt-F.Branch spot test left right ts (Some us)) =
     let last = anywhere (codes "endif") ∷ [] in
     let ss = map (λ (t : SaidStmt). t.0) ts in
     let others = map (λ (t : SaidStmt). t.0) us in
-    let more = anywhere (codes "else") ∷ stmts_entries (map stmt_aside others) in
+    let more = anywhere (codes "else") ∷ stmts_entries (map stmt_without_spots others) in
     let rest = anywhere (codes "else") ∷ stmts_entries others in
     ap (λ (l : List (List (List ℕ))). (opening (Stmt-F.Branch spot test left right ts (Some us))).words ∷ l)
-    (said_append (stmts_entries (map stmt_aside ss) ++ more) last (stmts_entries ss ++ rest) last
+    (said_append (stmts_entries (map stmt_without_spots ss) ++ more) last (stmts_entries ss ++ rest) last
     (said_before ts more rest (ap (λ (l : List (List (List ℕ))). (codes "else" ∷ []) ∷ l) (said_in stmt_way us))) refl)
 said_level y = refl
 
@@ -162,8 +162,8 @@ said_level y = refl
 says_rolled : (y : Stmt-F SaidStmt) → SaysSame stmt_way (roll-Stmt (said_stmt y))
 says_rolled y =
     let x = said_stmt y in
-    let z = moved_to nowhere (map-Stmt Stmt Stmt stmt_aside x) in
-    let bare : stmt_aside (roll-Stmt x) ≡ roll-Stmt z = fold-roll-Stmt Stmt stmt_aside_level x ∙ aside_rolls (map-Stmt Stmt Stmt stmt_aside x) in
+    let z = moved_to nowhere (map-Stmt Stmt Stmt stmt_without_spots x) in
+    let bare : stmt_without_spots (roll-Stmt x) ≡ roll-Stmt z = fold-roll-Stmt Stmt stmt_without_spots_level x ∙ without_spots_rolls (map-Stmt Stmt Stmt stmt_without_spots x) in
     ap (λ (s : Stmt). said (stmt_entries s)) bare ∙ ap said (fold-roll-Stmt (List Entry) stmt_level z) ∙ said_level y ∙ ap said (sym (fold-roll-Stmt (List Entry) stmt_level x))
 
 stmt_says : (s : Stmt) → SaysSame stmt_way s
@@ -178,16 +178,16 @@ callback_says : (c : Callback) → SaysSame callback_way c
 callback_says c =
     let last = anywhere (codes "endcallback") ∷ [] in
     ap (λ (l : List (List (List ℕ))). (codes "callback" ∷ c.name ∷ []) ∷ l)
-    (said_append (stmts_entries (map stmt_aside c.body)) last (stmts_entries c.body) last (said_all stmt_way stmt_says c.body) refl)
+    (said_append (stmts_entries (map stmt_without_spots c.body)) last (stmts_entries c.body) last (said_all stmt_way stmt_says c.body) refl)
 
 -- where each part has one line
 said_singles : {X : Type 0} (f : X → Entry) (xs ys : List X) → said (chained (map (λ x. f x ∷ []) xs)) ≡ said (chained (map (λ x. f x ∷ []) ys)) → said (map f xs) ≡ said (map f ys)
 said_singles f xs ys same = ap said (sym (single_lines f xs)) ∙ same ∙ ap said (single_lines f ys)
 
 -- a job whose spots are put aside says the same
-job_says : (job : Job) → said (job_entries (aside job)) ≡ said (job_entries job)
+pub job_says : (job : Job) → said (job_entries (without_spots job)) ≡ said (job_entries job)
 job_says job =
-    let bare = aside job in
+    let bare = without_spots job in
     let begin_line : Spot → List Entry = λ spot. kept_at spot (codes "begin" ∷ []) ∷ [] in
     let middle = anywhere (codes "end") ∷ anywhere (codes "schedule") ∷ [] in
     let last = anywhere (codes "stop") ∷ [] in
@@ -221,13 +221,13 @@ text_said [] = refl
 text_said (e ∷ es) = ap (λ (l : List ℕ). (line_of e.words ++ 10 ∷ []) ++ l) (text_said es)
 
 -- the canonical text doesn't depend on spots
-canonical_of_aside : (job : Job) → canonical (aside job) ≡ canonical job
-canonical_of_aside job =
-    text_said (job_entries (aside job)) ∙ ap (λ (l : List (List (List ℕ))). chained (map (λ words. line_of words ++ 10 ∷ []) l)) (job_says job) ∙ sym (text_said (job_entries job))
+canonical_of_without_spots : (job : Job) → canonical (without_spots job) ≡ canonical job
+canonical_of_without_spots job =
+    text_said (job_entries (without_spots job)) ∙ ap (λ (l : List (List (List ℕ))). chained (map (λ words. line_of words ++ 10 ∷ []) l)) (job_says job) ∙ sym (text_said (job_entries job))
 
 -- jobs that differ in their spots alone have one canonical text
-pub canonical_aside : (a b : Job) → aside a ≡ aside b → canonical a ≡ canonical b
-canonical_aside a b same = sym (canonical_of_aside a) ∙ ap canonical same ∙ canonical_of_aside b
+pub canonical_without_spots : (a b : Job) → without_spots a ≡ without_spots b → canonical a ≡ canonical b
+canonical_without_spots a b same = sym (canonical_of_without_spots a) ∙ ap canonical same ∙ canonical_of_without_spots b
 
 -- ---- lines placed one after another
 
@@ -284,7 +284,7 @@ placed_all w each (x ∷ xs) n = places_more w x xs (each x) (placed_all w each 
 pub record LevelAgain (n : ℕ) (x : Stmt-F Stmt) : Type 0 where
   pub again : Stmt-F Stmt
   pub entries : stmt_level (map-Stmt Stmt (List Entry) stmt_entries again) ≡ placed_from n (stmt_level (map-Stmt Stmt (List Entry) stmt_entries x))
-  pub same : stmt_aside_level (map-Stmt Stmt Stmt stmt_aside again) ≡ stmt_aside_level (map-Stmt Stmt Stmt stmt_aside x)
+  pub same : stmt_without_spots_level (map-Stmt Stmt Stmt stmt_without_spots again) ≡ stmt_without_spots_level (map-Stmt Stmt Stmt stmt_without_spots x)
   pub fits : (room : ℕ) → stmt_fits_level (map-Stmt Stmt (ℕ → Bool) stmt_fits again) room ≡ stmt_fits_level (map-Stmt Stmt (ℕ → Bool) stmt_fits x) room
 
 -- a statement and how it is placed
@@ -296,7 +296,7 @@ abbrev placed_stmt : Stmt-F PlacedStmt → Stmt-F Stmt
 placed_stmt y = map-Stmt PlacedStmt Stmt (λ t. t.0) y
 
 -- lists of statements that fit alike do so as blocks
-blocks_fit : (ss ts : List Stmt) → ((room : ℕ) → stmts_fit ss room ≡ stmts_fit ts room) → (room : ℕ) → list_fits (map stmt_fits ss) room ≡ list_fits (map stmt_fits ts) room
+pub blocks_fit : (ss ts : List Stmt) → ((room : ℕ) → stmts_fit ss room ≡ stmts_fit ts room) → (room : ℕ) → list_fits (map stmt_fits ss) room ≡ list_fits (map stmt_fits ts) room
 blocks_fit ss ts same zero = refl
 blocks_fit ss ts same (suc room) = list_all-map (λ (fits : ℕ → Bool). fits room) stmt_fits ss ∙ same room ∙ sym (list_all-map (λ (fits : ℕ → Bool). fits room) stmt_fits ts)
 
@@ -360,7 +360,7 @@ again_rolled y n =
     record {
       again = roll-Stmt level.again;
       entries = fold-roll-Stmt (List Entry) stmt_level level.again ∙ level.entries ∙ ap (placed_from n) (sym (fold-roll-Stmt (List Entry) stmt_level x));
-      same = fold-roll-Stmt Stmt stmt_aside_level level.again ∙ level.same ∙ sym (fold-roll-Stmt Stmt stmt_aside_level x);
+      same = fold-roll-Stmt Stmt stmt_without_spots_level level.again ∙ level.same ∙ sym (fold-roll-Stmt Stmt stmt_without_spots_level x);
       fits = λ room. ap (λ (f : ℕ → Bool). f room) (fold-roll-Stmt (ℕ → Bool) stmt_fits_level level.again) ∙ level.fits room ∙ ap (λ (f : ℕ → Bool). f room) (sym (fold-roll-Stmt (ℕ → Bool) stmt_fits_level x));
     }
 
@@ -399,7 +399,7 @@ pub record Respotted (job : Job) : Type 0 where
   pub again : Job
   pub entries : job_entries again ≡ placed_from 1 (job_entries job)
   pub writable : IsWritable job → IsWritable again
-  pub same : aside again ≡ aside job
+  pub same : without_spots again ≡ without_spots job
 
 -- where each part has one line
 placed_singles : {X : Type 0} (f : X → Entry) (xs ys : List X) (n : ℕ) → chained (map (λ x. f x ∷ []) xs) ≡ placed_from n (chained (map (λ x. f x ∷ []) ys)) → map f xs ≡ placed_from n (map f ys)

@@ -10,17 +10,18 @@ use Rattle.fx_script.specs.declared.refusal.ReadJob.{ReadJob}
 use Rattle.fx_script.specs.Answers.{Answers}
 use Rattle.fx_script.specs.Moves.{empty_draft}
 use Rattle.fx_script.specs.Reading.{Refusal, reading, job_in_draft, job_in}
-use Rattle.fx_script.specs.Spelling.{Entry, AreLines, met_from, Spells, job_entries}
+use Rattle.fx_script.specs.SaidLines.{met_from}
+use Rattle.fx_script.specs.Spelling.{Entry, AreLines, Spells, job_entries}
 use Rattle.fx_script.proofs.SoFar.{lines_before}
 use Rattle.fx_script.proofs.Adds.{nothing_open}
 use Rattle.fx_script.proofs.Found.{Shows, run_found}
 use Rattle.fx_script.proofs.Again.{plain, job_leads, run_again}
 
 -- a whole draft's lines are its job's
-whole : (s : Stage) (d : Draft) → s ≡ stage.Stopped → lines_before s d ≡ job_entries d.job
+pub whole : (s : Stage) (d : Draft) → s ≡ stage.Stopped → lines_before s d ≡ job_entries d.job
 whole s d e = rw e refl
 
-nothing_read : Shows [] empty_draft
+pub nothing_read : Shows [] empty_draft
 nothing_read = record {
   lines = tt;
   fine = record {
@@ -55,12 +56,13 @@ pub is_spelled : (text : List ℕ) (r : Result Job ReadJob) → Answers r (job_i
 is_spelled text (Ok job) e = job_found text (reading text) job refl e
 is_spelled text (Err e) given = tt
 
+-- the lines of what is spelled so lead to its draft
+pub spelled_run : (text : List ℕ) (job : Job) → Spells text job → reading text ≡ Ok (plain stage.Stopped job)
+spelled_run text job spells = run_again (lines_of text) 1 empty_draft (job_entries job) (plain stage.Stopped job) refl spells.sound spells.lines (job_leads job spells.writable)
+
 -- what is spelled so is read
 pub is_read : (text : List ℕ) (job : Job) → Spells text job → job_in text ≡ Ok job
-is_read text job spells =
-    let read : reading text ≡ Ok (plain stage.Stopped job) =
-    run_again (lines_of text) 1 empty_draft (job_entries job) (plain stage.Stopped job) refl spells.sound spells.lines (job_leads job spells.writable) in
-    rw read refl
+is_read text job spells = rw (spelled_run text job spells) refl
 
 -- a text is spelled by at most one job
 pub one_job : (text : List ℕ) (a b : Job) → Spells text a → Spells text b → a ≡ b

@@ -68,11 +68,11 @@ event_text event.Notice = codes "notice"
 event_text event.Run = codes "run"
 
 -- the word that stands for a keyword
-abbrev pub text_of : Keyword → List ℕ
-text_of (k.Part word) = part_text word
-text_of (k.Edge word) = edge_text word
-text_of (k.Simple word) = simple_text word
-text_of (k.Event word) = event_text word
+abbrev pub keyword_text : Keyword → List ℕ
+keyword_text (k.Part word) = part_text word
+keyword_text (k.Edge word) = edge_text word
+keyword_text (k.Simple word) = simple_text word
+keyword_text (k.Event word) = event_text word
 
 -- all keywords
 abbrev pub keywords : List Keyword
@@ -123,7 +123,7 @@ keywords =
 
 -- the keyword that a word stands for
 abbrev pub keyword_of : List ℕ → Option Keyword
-keyword_of word = find (λ keyword. bytes_eq word (text_of keyword)) keywords
+keyword_of word = find (λ keyword. bytes_eq word (keyword_text keyword)) keywords
 
 stop_is_one : keyword_of (codes "stop") ≡ Some (k.Part part.Stop)
 stop_is_one = refl

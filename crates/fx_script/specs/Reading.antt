@@ -5,7 +5,7 @@ use Rattle.fx_text.specs.declared.check.LineFault.{LineFault}
 use Rattle.fx_text.specs.declared.check.LineFault.TheVariants as line_fault
 use Rattle.fx_text.specs.Checks.{checked}
 use Rattle.fx_text.specs.Lines.{Line, lines_of}
-use Rattle.fx_text.specs.Words.{Word, words_of}
+use Rattle.fx_text.specs.Words.{Word}
 use Rattle.fx_script.specs.declared.draft.Block.{Block}
 use Rattle.fx_script.specs.declared.draft.Draft.{Draft}
 use Rattle.fx_script.specs.declared.draft.Stage.{Stage}
@@ -18,34 +18,19 @@ use Rattle.fx_script.specs.declared.refusal.JobFault.TheVariants.{NotAscii, Line
 use Rattle.fx_script.specs.declared.refusal.Wrong.{Wrong}
 use Rattle.fx_script.specs.Left.{Left}
 use Rattle.fx_script.specs.Outcome.{◌>>=◌}
-use Rattle.fx_script.specs.Comments.{is_comment}
 use Rattle.fx_script.specs.Fields.{misfit}
 use Rattle.fx_script.specs.Keywords.{keyword_of}
 use Rattle.fx_script.specs.Heads.{head_at}
 use Rattle.fx_script.specs.Moves.{empty_draft, moved}
-use Rattle.fx_script.specs.Stands.{may_stand}
+use Rattle.fx_script.specs.SaidLines.{Met, met_in, spot_of}
+use Rattle.fx_script.specs.Order.{may_stand}
 
 -- a fault and its place
 pub record Refusal : Type 0 where
   pub fault : JobFault
   pub spot : Spot
 
--- a line that is no comment and has words: its number, its first word, and the words behind it
-pub record Met : Type 0 where
-  pub number : ℕ
-  pub first : Word
-  pub left : Left
-
--- what is met in a line with these words, whose end is one before this column
-abbrev pub met_of : ℕ → ℕ → List Word → Option Met
-met_of number past [] = None
-met_of number past (w ∷ ws) = if is_comment w then None else Some (record { number = number; first = w; left = record { words = ws; past = past } })
-
--- what is met in a line
-abbrev pub met_in : ℕ → List ℕ → Option Met
-met_in number line = met_of number (length line + 1) (words_of line)
-
--- a line is sound: its bytes are printable, it isn't too long, and it has its line end
+-- what is wrong with a line that isn't sound: a byte that isn't printable comes first, then a line that is too long, then a missing line end
 abbrev pub soundness : Result (Unit {0}) LineFault → Bool → ℕ → Result (Unit {0}) Wrong
 soundness (Err (line_fault.NotAscii column)) ended past = Err (record { fault = NotAscii; column = column })
 soundness (Err line_fault.TooLong) ended past = Err (record { fault = LineTooLong; column = 1025 })
@@ -64,10 +49,6 @@ head_placed s blocks (Some keyword) spot first left = if may_stand s blocks keyw
 abbrev pub head_in : Stage → List Block → Spot → Word → Left → Result Head Wrong
 head_in stage.Stopped blocks spot first left = Err (record { fault = TrailingText; column = first.column })
 head_in s blocks spot first left = head_placed s blocks (keyword_of first.bytes) spot first left
-
--- the spot of a line
-abbrev pub spot_of : Met → Spot
-spot_of m = record { line = m.number; column = m.first.column }
 
 -- the draft behind a line in which this is met
 abbrev pub taken : Draft → Option Met → Result Draft Wrong

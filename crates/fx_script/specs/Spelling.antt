@@ -1,5 +1,5 @@
 -- Which texts spell which job.
-use Rattle.std.specs.Prelude.{◌≡◌, ℕ, zero, suc, ◌+◌, ℤ, Bool, true, false, ◌&&◌, nat_le, List, [], ◌∷◌, ◌++◌, map, length, codes, Option, Some, None, IfSome, Ok}
+use Rattle.std.specs.Prelude.{◌≡◌, ℕ, zero, suc, ℤ, Bool, true, false, ◌&&◌, nat_le, List, [], ◌∷◌, ◌++◌, map, length, codes, Option, Some, None, IfSome}
 use Rattle.std.specs.Fmt.{signed_decimal}
 use Rattle.std.specs.List.{AllByRecursion, list_all}
 use Rattle.fx_base.specs.declared.names.Op.{Op}
@@ -7,7 +7,7 @@ use Rattle.fx_base.specs.declared.names.Op.TheVariants as op
 use Rattle.fx_base.specs.declared.names.Role.{Role}
 use Rattle.fx_base.specs.declared.names.Role.TheVariants as role
 use Rattle.fx_base.specs.declared.spot.Spot.{Spot}
-use Rattle.fx_text.specs.Lines.{Line, lines_of}
+use Rattle.fx_text.specs.Lines.{lines_of}
 use Rattle.fx_text.specs.Numbers.{fits_64}
 use Rattle.fx_text.specs.Words.{Word}
 use Rattle.fx_script.specs.declared.job.Callback.{Callback}
@@ -26,7 +26,7 @@ use Rattle.fx_script.specs.declared.job.Test.{Test}
 use Rattle.fx_script.specs.declared.job.Test.TheVariants as test
 use Rattle.fx_script.specs.Exprs.{expr_words, is_writable_expr}
 use Rattle.fx_script.specs.Names.{is_name}
-use Rattle.fx_script.specs.Reading.{Met, met_in, spot_of, sound}
+use Rattle.fx_script.specs.SaidLines.{Met, spot_of, met_from, IsSound}
 
 -- ---- the words of fields
 
@@ -265,19 +265,6 @@ AreLines [] [] = Unit {0}
 AreLines [] (e ∷ es) = ⊥
 AreLines (m ∷ ms) [] = ⊥
 AreLines (m ∷ ms) (e ∷ es) = IsLine m e × AreLines ms es
-
--- the lines from this number on that are no comments and have words
-abbrev pub if_met : Option Met → List Met → List Met
-if_met None ms = ms
-if_met (Some m) ms = m ∷ ms
-
-abbrev pub met_from : ℕ → List Line → List Met
-met_from number [] = []
-met_from number (l ∷ ls) = if_met (met_in number l.bytes) (met_from (number + 1) ls)
-
--- a line is printable, not too long, and has its line end
-abbrev pub IsSound : Line → Type 0
-IsSound line = sound line ≡ Ok tt
 
 -- a text spells a job: its lines are sound, and those that say something are the job's, with their spots
 pub record Spells (text : List ℕ) (job : Job) : Type 0 where

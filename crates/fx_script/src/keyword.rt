@@ -1,6 +1,6 @@
 ghost use Rattle.std.specs.Prelude.{◌≡◌};
 ghost use Rattle.std.specs.Str.{bytes_eq};
-ghost use Rattle.fx_script.specs.Keywords.{part_text, edge_text, simple_text, event_text, text_of, keyword_of};
+ghost use Rattle.fx_script.specs.Keywords.{part_text, edge_text, simple_text, event_text, keyword_text, keyword_of};
 
 /// The first word of a line, which says what kind of line it is.
 #[derive(Clone, Copy, Debug, PartialEq, Eq)]
@@ -119,8 +119,8 @@ const ALL: [Keyword; 42] = [
 ];
 
 /// The word that stands for a keyword.
-pub fn text_of(keyword: Keyword) -> &'static str
-    ensures { result.now ≡ text_of keyword }
+pub fn keyword_text(keyword: Keyword) -> &'static str
+    ensures { result.now ≡ keyword_text keyword }
 {
     match keyword {
         Keyword::Part(word) => part_text(word),
@@ -206,7 +206,7 @@ pub fn keyword_of(word: &[u8]) -> Option<Keyword>
 {
     ALL.iter()
         .copied()
-        .find(|keyword| is_text(word, text_of(*keyword)))
+        .find(|keyword| is_text(word, keyword_text(*keyword)))
 }
 
 /// Whether a word is this text.

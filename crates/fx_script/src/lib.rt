@@ -10,6 +10,7 @@ mod job;
 mod keyword;
 pub mod laws;
 mod name;
+mod order;
 mod print;
 mod print_line;
 mod print_stmt;
@@ -18,7 +19,6 @@ mod read;
 mod reader;
 mod refusal;
 mod stack;
-mod stand;
 mod statement;
 
 pub use expr::Expr;

@@ -1,5 +1,5 @@
 ghost use Rattle.std.specs.Prelude.{◌≡◌};
-ghost use Rattle.fx_script.specs.Stands.{may_stand, is_inside, part_stands, edge_stands};
+ghost use Rattle.fx_script.specs.Order.{may_stand, is_inside, part_stands, edge_stands};
 
 use crate::draft::{Block, Stage};
 use crate::keyword::{EdgeWord, Keyword, PartWord};
