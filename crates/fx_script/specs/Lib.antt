@@ -6,6 +6,7 @@ pub mod Names
 pub mod Fields
 pub mod Exprs
 pub mod Next
+pub mod Spots
 pub mod Keywords
 pub mod Statements
 pub mod Heads

@@ -1,3 +1,6 @@
+ghost use Rattle.std.specs.Prelude.{◌≡◌};
+ghost use Rattle.fx_script.specs.Spots.{stmt_spot};
+
 use crate::expr::Expr;
 use fx_base::{Bytes, Op, Role, Seq, Spot};
 
@@ -187,6 +190,34 @@ pub enum Stmt {
         group: i64,
         stamp: Expr,
     },
+}
+
+impl Stmt {
+    /// The spot of its line; of a block, that of its first line.
+    pub fn spot(&self) -> Spot
+        ensures { result ≡ stmt_spot self.now }
+    {
+        match self {
+            Stmt::Let { spot, .. }
+            | Stmt::Set { spot, .. }
+            | Stmt::Print { spot, .. }
+            | Stmt::Register { spot, .. }
+            | Stmt::RoleOnly { spot, .. }
+            | Stmt::Branch { spot, .. }
+            | Stmt::Loop { spot, .. }
+            | Stmt::Barrier { spot, .. }
+            | Stmt::Reduce { spot, .. }
+            | Stmt::Agree { spot, .. }
+            | Stmt::Shift { spot, .. }
+            | Stmt::Group { spot, .. }
+            | Stmt::Member { spot, .. }
+            | Stmt::Store { spot, .. }
+            | Stmt::Commit { spot, .. }
+            | Stmt::CommitBarrier { spot, .. }
+            | Stmt::Restore { spot, .. }
+            | Stmt::Drop { spot, .. } => *spot,
+        }
+    }
 }
 
 /// Statements, in the order in which they run.
