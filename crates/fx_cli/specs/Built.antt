@@ -9,8 +9,7 @@ use Rattle.fx_script.specs.declared.job.Decl.TheVariants as decl
 use Rattle.fx_script.specs.declared.job.Job.{Job}
 use Rattle.fx_script.specs.declared.job.Stmt.{Stmt}
 use Rattle.fx_script.specs.declared.job.Stmt.TheVariants as stmt
-use Rattle.fx_script.specs.declared.job.Stmt.TheFolds.{fold-Stmt}
-use Rattle.fx_check.specs.Acceptance.{spot_level}
+use Rattle.fx_script.specs.Spots.{stmt_spot}
 use Rattle.fx_cli.specs.Plan.{Named, Plan}
 
 -- a line of a job: its place, and whether what it says can be run
@@ -35,10 +34,6 @@ decl_mark (decl.Counter spot name) = mark spot false
 -- no callback can be run yet
 abbrev pub callback_mark : Callback → Mark
 callback_mark callback = mark callback.spot false
-
--- the place of a statement; of a block, that of its first line
-abbrev pub stmt_spot : Stmt → Spot
-stmt_spot = fold-Stmt Spot spot_level
 
 -- a print
 abbrev pub is_print : Stmt → Bool

@@ -1,5 +1,5 @@
 ghost use Rattle.std.specs.Prelude.{◌≡◌, map};
-ghost use Rattle.fx_cli.specs.Built.{callback_mark, decl_mark, event_mark, first_in, first_unbuilt, head_marks, is_print, stmt_mark, stmt_spot};
+ghost use Rattle.fx_cli.specs.Built.{callback_mark, decl_mark, event_mark, first_in, first_unbuilt, head_marks, is_print, stmt_mark};
 
 use fx_base::Spot;
 use fx_script::{Callback, Decl, Event, Job, Stmt};
@@ -58,7 +58,7 @@ fn first_stmt(body: &[Stmt]) -> Option<Spot>
 {
     for statement in body {
         if !is_print(statement) {
-            return Some(stmt_spot(statement));
+            return Some(statement.spot());
         }
     }
     None
@@ -74,29 +74,4 @@ fn is_print(statement: &Stmt) -> bool
     ensures { result ≡ is_print statement.now }
 {
     matches!(statement, Stmt::Print { .. })
-}
-
-fn stmt_spot(statement: &Stmt) -> Spot
-    ensures { result ≡ stmt_spot statement.now }
-{
-    match statement {
-        Stmt::Let { spot, .. }
-        | Stmt::Set { spot, .. }
-        | Stmt::Print { spot, .. }
-        | Stmt::Register { spot, .. }
-        | Stmt::RoleOnly { spot, .. }
-        | Stmt::Branch { spot, .. }
-        | Stmt::Loop { spot, .. }
-        | Stmt::Barrier { spot, .. }
-        | Stmt::Reduce { spot, .. }
-        | Stmt::Agree { spot, .. }
-        | Stmt::Shift { spot, .. }
-        | Stmt::Group { spot, .. }
-        | Stmt::Member { spot, .. }
-        | Stmt::Store { spot, .. }
-        | Stmt::Commit { spot, .. }
-        | Stmt::CommitBarrier { spot, .. }
-        | Stmt::Restore { spot, .. }
-        | Stmt::Drop { spot, .. } => *spot,
-    }
 }
