@@ -18,7 +18,7 @@ use Rattle.fx_script.specs.declared.job.Stmt.TheFolds.{fold-roll-Stmt}
 use Rattle.fx_script.specs.declared.job.Test.{Test}
 use Rattle.fx_check.specs.declared.tables.Attached.{Attached}
 use Rattle.fx_check.specs.declared.tables.Created.{Created}
-use Rattle.fx_check.specs.Facts.{created_by, created_in, attached_by, attached_in, created_level, attached_level, creates, attaches, array_of, first_created, first_attached, or_first, is_eighth, GrewCreated, GrewAttached}
+use Rattle.fx_check.specs.Facts.{created_by, created_in, attached_by, attached_in, created_level, attached_level, creates, attaches, array_of, first_created, first_attached, or_first, is_one_of_eight, GrewCreated, GrewAttached}
 
 -- ---- the first of two
 
@@ -80,7 +80,7 @@ branch_attaches s spot t left right chosen other o is some =
 
 -- two lists, one after the other, have the same firsts as two others
 abbrev pub SameCreated : List Created → List Created → List Created → List Created → Type 0
-SameCreated a x b y = (group : ℤ) → is_eighth group ≡ true → or_first (first_created a group) (first_created x group) ≡ or_first (first_created b group) (first_created y group)
+SameCreated a x b y = (group : ℤ) → is_one_of_eight group ≡ true → or_first (first_created a group) (first_created x group) ≡ or_first (first_created b group) (first_created y group)
 
 pub created_step : (a b c x y : List Created) → GrewCreated a b x → GrewCreated b c y → GrewCreated a c (x ++ y)
 created_step a b c x y f g = λ group e.
@@ -180,17 +180,17 @@ branch_attached_on s spot t left right chosen other o group member found is some
 -- ---- one more
 
 -- a number that is none of the eight isn't one that is
-not_same : (group other : ℤ) → is_eighth group ≡ true → is_eighth other ≡ false → int_eq other group ≡ false
+not_same : (group other : ℤ) → is_one_of_eight group ≡ true → is_one_of_eight other ≡ false → int_eq other group ≡ false
 not_same group other e f = elim (cases_Bool (int_eq other group)) [
   | inl t ↦
       let same : other ≡ group = (Decides-int_eq other group).0 t in
-      let both : true ≡ false = sym e ∙ sym (ap is_eighth same) ∙ f in
+      let both : true ≡ false = sym e ∙ sym (ap is_one_of_eight same) ∙ f in
       absurd cc
   | inr n ↦ n
 ]
 
 -- what isn't one of the eight isn't looked for
-pub created_skipped : (a : List Created) (c : Created) → is_eighth c.group ≡ false → GrewCreated a a (c ∷ [])
+pub created_skipped : (a : List Created) (c : Created) → is_one_of_eight c.group ≡ false → GrewCreated a a (c ∷ [])
 created_skipped a c none = λ group e. rw (not_same group c.group e none) (sym (or_none (first_created a group)))
 
 found_by : (a : List Created) (c : Created) (group : ℤ) (b : Bool) → int_eq c.group group ≡ b → is_some (first_created a c.group) ≡ true
@@ -208,7 +208,7 @@ created_pushed a c = λ group e. find_append (creates group) a (c ∷ [])
 -- ---- members
 
 abbrev pub SameAttached : List Attached → List Attached → List Attached → List Attached → Type 0
-SameAttached a x b y = (group member : ℤ) → is_eighth group ≡ true → is_eighth member ≡ true
+SameAttached a x b y = (group member : ℤ) → is_one_of_eight group ≡ true → is_one_of_eight member ≡ true
     → or_first (first_attached a group member) (first_attached x group member) ≡ or_first (first_attached b group member) (first_attached y group member)
 
 pub attached_step : (a b c x y : List Attached) → GrewAttached a b x → GrewAttached b c y → GrewAttached a c (x ++ y)
@@ -252,8 +252,8 @@ and_none : (g : Bool) → (g && false) ≡ false
 and_none true = refl
 and_none false = refl
 
-pub attached_skipped : (bs : List Attached) (a : Attached) → (is_eighth a.group && is_eighth a.member) ≡ false → GrewAttached bs bs (a ∷ [])
-attached_skipped bs a none = λ group member e i. elim (and_false (is_eighth a.group) (is_eighth a.member) none) [
+pub attached_skipped : (bs : List Attached) (a : Attached) → (is_one_of_eight a.group && is_one_of_eight a.member) ≡ false → GrewAttached bs bs (a ∷ [])
+attached_skipped bs a none = λ group member e i. elim (and_false (is_one_of_eight a.group) (is_one_of_eight a.member) none) [
   | inl g ↦ rw (neither a group member false (int_eq a.member member) (not_same group a.group e g) refl refl) (sym (or_none (first_attached bs group member)))
   | inr m ↦ rw (neither a group member (int_eq a.group group) false refl (not_same member a.member i m) (and_none (int_eq a.group group))) (sym (or_none (first_attached bs group member)))
 ]

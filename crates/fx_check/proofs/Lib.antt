@@ -1,7 +1,9 @@
 pub mod Gathering
-pub mod FirstLines
+pub mod Names
 pub mod Walks
 pub mod CallbackLines
 pub mod Accepting
 pub mod LineParts
 pub mod PartLemmas
+pub mod Rows
+pub mod Standings

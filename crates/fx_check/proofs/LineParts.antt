@@ -4,7 +4,7 @@ use Rattle.std.specs.Prelude.{IfOk}
 use Rattle.fx_script.specs.declared.job.Job.{Job}
 use Rattle.fx_check.specs.declared.fault.CheckJob.{CheckJob}
 use Rattle.fx_check.specs.declared.fault.CheckJob.TheVariants as check
-use Rattle.fx_check.specs.Acceptance.{Line, IsAccepted, head_lines, decl_lines, callbacks_lines, stmts_lines, event_lines, lines_of, first_refused, work_refused, refusal_of, Refuses, Answers, IsUnrefused}
+use Rattle.fx_check.specs.Acceptance.{Line, IsAccepted, head_lines, decl_lines, callbacks_lines, stmts_lines, event_lines, lines_of, first_refused, work_refused, refusal_of, Tells, Answers, IsUnrefused}
 use Rattle.fx_check.specs.Facts.{facts_of}
 use Rattle.fx_check.specs.Rules.{procs_of, body_place}
 use Rattle.fx_check.proofs.Accepting.{none_if_accepted, accepted_if_none}
@@ -25,19 +25,19 @@ body_part job = stmts_lines (facts_of job) job.body body_place
 abbrev pub events_part : Job → List Line
 events_part job = event_lines (procs_of job) 0 job.events
 
-pub names_stop : (job : Job) (e : CheckJob) → first_refused (head_part job) ≡ None → Refuses e (first_refused (names_part job)) → Refuses e (first_refused (lines_of job))
+pub names_stop : (job : Job) (e : CheckJob) → first_refused (head_part job) ≡ None → Tells e (first_refused (names_part job)) → Tells e (first_refused (lines_of job))
 names_stop job e head refuses =
     refuses_on e (head_part job) (names_part job ++ (callbacks_part job ++ (body_part job ++ events_part job))) head
     (answers_stop e (names_part job) (callbacks_part job ++ (body_part job ++ events_part job)) refuses)
 
-pub callbacks_stop : (job : Job) (e : CheckJob) → first_refused (head_part job) ≡ None → first_refused (names_part job) ≡ None → Refuses e (first_refused (callbacks_part job)) → Refuses e (first_refused (lines_of job))
+pub callbacks_stop : (job : Job) (e : CheckJob) → first_refused (head_part job) ≡ None → first_refused (names_part job) ≡ None → Tells e (first_refused (callbacks_part job)) → Tells e (first_refused (lines_of job))
 callbacks_stop job e head names refuses =
     refuses_on e (head_part job) (names_part job ++ (callbacks_part job ++ (body_part job ++ events_part job))) head
     (refuses_on e (names_part job) (callbacks_part job ++ (body_part job ++ events_part job)) names
     (answers_stop e (callbacks_part job) (body_part job ++ events_part job) refuses))
 
 pub body_stops : (job : Job) (e : CheckJob) → first_refused (head_part job) ≡ None → first_refused (names_part job) ≡ None → first_refused (callbacks_part job) ≡ None
-    → Refuses e (first_refused (body_part job)) → Refuses e (first_refused (lines_of job))
+    → Tells e (first_refused (body_part job)) → Tells e (first_refused (lines_of job))
 body_stops job e head names callbacks refuses =
     refuses_on e (head_part job) (names_part job ++ (callbacks_part job ++ (body_part job ++ events_part job))) head
     (refuses_on e (names_part job) (callbacks_part job ++ (body_part job ++ events_part job)) names
@@ -45,7 +45,7 @@ body_stops job e head names callbacks refuses =
     (answers_stop e (body_part job) (events_part job) refuses)))
 
 pub events_stop : (job : Job) (e : CheckJob) → first_refused (head_part job) ≡ None → first_refused (names_part job) ≡ None → first_refused (callbacks_part job) ≡ None → first_refused (body_part job) ≡ None
-    → Refuses e (first_refused (events_part job)) → Refuses e (first_refused (lines_of job))
+    → Tells e (first_refused (events_part job)) → Tells e (first_refused (lines_of job))
 events_stop job e head names callbacks body refuses =
     refuses_on e (head_part job) (names_part job ++ (callbacks_part job ++ (body_part job ++ events_part job))) head
     (refuses_on e (names_part job) (callbacks_part job ++ (body_part job ++ events_part job)) names
@@ -61,7 +61,7 @@ all_fine job head names callbacks body events =
     (none_append (body_part job) (events_part job) body events)))
 
 -- a refusal of a line is that of the job
-pub line_refuses : (job : Job) (e : CheckJob) → Refuses e (first_refused (lines_of job)) → Refuses e (refusal_of job)
+pub line_refuses : (job : Job) (e : CheckJob) → Tells e (first_refused (lines_of job)) → Tells e (refusal_of job)
 line_refuses job (check.Refused fault spot) is = ap (work_refused job) is
 line_refuses job check.NoMemory is = tt
 

@@ -2,18 +2,19 @@
 use Rattle.std.proofs.Common.{◌≡◌, ℕ, ◌≤◌, Bool, true, false, not, if◌then◌else◌, ◌&&◌, List, [], ◌∷◌, ◌++◌, Option, Some, None, refl, sym, ap, ◌∙◌, inl, inr, arith}
 use Rattle.std.specs.Prelude.{nat_lt}
 use Rattle.std.specs.List.{AllByRecursion, find}
-use Rattle.std.proofs.lemmas.Bool.{and_parts, ltb-true, lt-ltb}
+use Rattle.std.specs.Option.{option_map}
+use Rattle.std.proofs.lemmas.Bool.{cases_Bool, and_parts, ltb-true, lt-ltb}
 use Rattle.std.proofs.lemmas.Bool.Decides.{nat_tests}
 use Rattle.fx_base.specs.declared.spot.Spot.{Spot}
 use Rattle.fx_script.specs.declared.job.Job.{Job}
 use Rattle.fx_check.specs.declared.fault.StaticFault.{StaticFault}
-use Rattle.fx_check.specs.declared.fault.StaticFault.TheVariants.{UnknownName, NameTwice, OutOfRange, NotUniform, Misplaced, GroupDiffers, MemberDiffers, SubsetOutside, TooMuchWork}
-use Rattle.fx_check.specs.Acceptance.{Line, Refused, IsAccepted, decl_lines, callbacks_lines, stmts_lines, event_lines, head_lines, lines_of, fault_of, first_or, first_refused, work_refused, refusal_of}
+use Rattle.fx_check.specs.declared.fault.StaticFault.TheVariants.{TooMuchWork}
+use Rattle.fx_check.specs.Acceptance.{Line, Rule, Refused, IsAccepted, rules_of, first_broken, decl_lines, callbacks_lines, stmts_lines, event_lines, head_lines, lines_of, fault_of, first_or, first_refused, work_refused, refusal_of}
 use Rattle.fx_check.specs.Facts.{facts_of, or_first}
-use Rattle.fx_check.specs.Parts.{KeepsRules, KeepRules, KeepsByParts, reasons, gives, IsFirstRefused, IsTooMuch, IsRefusal}
+use Rattle.fx_check.specs.Parts.{KeepsRules, KeepRules, KeepsByParts, is_broken, reason_of, IsFirstRefused, IsTooMuch, IsRefusal}
 use Rattle.fx_check.specs.Rules.{body_place, is_between, procs_of}
 use Rattle.fx_check.specs.Work.{work_of}
-use Rattle.fx_check.proofs.Accepting.{keeps, all_keep, joined, none_refused}
+use Rattle.fx_check.proofs.Accepting.{keeps, all_keep, all_named, none_refused}
 use Rattle.fx_check.proofs.Walks.{refused_append}
 
 -- ---- parts
@@ -31,7 +32,7 @@ not_more n e = grind (arith, nat_tests)
 
 pub by_parts : (job : Job) → IsAccepted job → KeepsByParts job
 by_parts job is =
-    let all : KeepRules (lines_of job) = joined (lines_of job) is.known is.once is.in_range is.roomy is.uniform is.placed is.same_group is.same_member is.inside in
+    let all : KeepRules (lines_of job) = all_named job is in
     let names = decl_lines [] job.names in
     let callbacks = callbacks_lines (facts_of job) [] job.callbacks in
     let body = stmts_lines (facts_of job) job.body body_place in
@@ -54,20 +55,16 @@ by_parts job is =
 
 -- ---- refusals
 
-one_limit : (i r : Bool) (later : Option StaticFault) → (if not i then Some OutOfRange else (if not r then Some OutOfRange else later)) ≡ (if not (i && r) then Some OutOfRange else later)
-one_limit true r later = refl
-one_limit false r later = refl
+-- the reason that is told is that of the first rule that is broken
+first_found : (rules : List Rule) → first_broken rules ≡ option_map reason_of (find is_broken rules)
+first_found [] = refl
+first_found (rule ∷ rules) = elim (cases_Bool rule.0) [
+  | inl kept ↦ rw kept (first_found rules)
+  | inr broken ↦ rw broken refl
+]
 
--- the reason that is told is the first in order
-pub least_reason : (l : Line) → fault_of l ≡ find (gives l) reasons
-least_reason l =
-    ap (λ (later : Option StaticFault). if not l.known then Some UnknownName else (if not l.once then Some NameTwice else later))
-    (one_limit l.in_range l.roomy (if not l.uniform then Some NotUniform
-    else (if not l.placed then Some Misplaced
-    else (if not l.same_group then Some GroupDiffers
-    else (if not l.same_member then Some MemberDiffers
-    else (if not l.inside then Some SubsetOutside
-    else None))))))
+least_reason : (l : Line) → fault_of l ≡ option_map reason_of (find is_broken (rules_of l))
+least_reason l = first_found (rules_of l)
 
 -- of a line that is refused or isn't, and the lines behind it
 first_by : (l : Line) (ls : List Line) (r : Refused) (o : Option StaticFault) → fault_of l ≡ o → first_or l.spot o (first_refused ls) ≡ Some r

@@ -10,12 +10,14 @@ use Rattle.fx_script.specs.declared.job.Job.{Job}
 use Rattle.fx_script.specs.declared.job.Stmt.{Stmt}
 use Rattle.fx_script.specs.declared.job.Stmt.TheOpen.{Stmt-F}
 use Rattle.fx_script.specs.declared.job.Stmt.TheFolds.{fold-Stmt}
+use Rattle.fx_script.specs.declared.job.Stmt.TheViews.{out-Stmt}
 use Rattle.fx_script.specs.Spelling.{chained}
+use Rattle.fx_script.specs.Spots.{spot_level}
 use Rattle.fx_check.specs.declared.fault.CheckJob.{CheckJob}
 use Rattle.fx_check.specs.declared.fault.CheckJob.TheVariants as check
 use Rattle.fx_check.specs.declared.fault.StaticFault.{StaticFault}
 use Rattle.fx_check.specs.declared.fault.StaticFault.TheVariants.{UnknownName, NameTwice, OutOfRange, NotUniform, Misplaced, GroupDiffers, MemberDiffers, SubsetOutside, TooMuchWork}
-use Rattle.fx_check.specs.declared.place.Place.{Place}
+use Rattle.fx_check.specs.declared.surroundings.Surroundings.{Surroundings}
 use Rattle.fx_check.specs.Facts.{Facts, facts_of, name_of, decl_spot, is_of, is_array_decl, is_counter_decl, is_call_of}
 use Rattle.fx_check.specs.Rules.{body_place, callback_place, inside_when, inside_if, inside_for, is_between, procs_of, is_event_in_range, is_known, is_in_range, has_room, is_uniform, is_placed, agrees_on_group, agrees_on_member, stores_inside}
 use Rattle.fx_check.specs.Work.{work_of}
@@ -81,29 +83,8 @@ abbrev pub decl_lines : List Decl → List Decl → List Line
 decl_lines before [] = []
 decl_lines before (d ∷ ds) = decl_line before d ∷ decl_lines (before ++ d ∷ []) ds
 
--- the spot of a statement: that of its first line
-abbrev pub spot_level : {X : Type 0} → Stmt-F X → Spot
-spot_level (Stmt-F.Let spot array value) = spot
-spot_level (Stmt-F.Set spot counter value) = spot
-spot_level (Stmt-F.Print spot name) = spot
-spot_level (Stmt-F.Register spot name) = spot
-spot_level (Stmt-F.RoleOnly spot role body) = spot
-spot_level (Stmt-F.Branch spot test left right body other) = spot
-spot_level (Stmt-F.Loop spot counter first last body) = spot
-spot_level (Stmt-F.Barrier spot) = spot
-spot_level (Stmt-F.Reduce spot op counter array) = spot
-spot_level (Stmt-F.Agree spot counter array index) = spot
-spot_level (Stmt-F.Shift spot source target by) = spot
-spot_level (Stmt-F.Group spot group start depth) = spot
-spot_level (Stmt-F.Member spot group member array) = spot
-spot_level (Stmt-F.Store spot group member subset) = spot
-spot_level (Stmt-F.Commit spot group) = spot
-spot_level (Stmt-F.CommitBarrier spot group) = spot
-spot_level (Stmt-F.Restore spot group member stamp) = spot
-spot_level (Stmt-F.Drop spot group stamp) = spot
-
 -- the first line of a statement that stands there
-abbrev pub stmt_line : {X : Type 0} → Facts → Place → Stmt-F X → Line
+abbrev pub stmt_line : {X : Type 0} → Facts → Surroundings → Stmt-F X → Line
 stmt_line f p s = record {
   spot = spot_level s;
   known = is_known f s;
@@ -118,31 +99,31 @@ stmt_line f p s = record {
 }
 
 -- the first line of a statement of its own
-abbrev pub line_of : Facts → Place → Stmt → Line
-line_of f p = fold-Stmt Line (stmt_line f p)
+abbrev pub line_of : Facts → Surroundings → Stmt → Line
+line_of f p s = stmt_line f p (out-Stmt s)
 
 -- the lines of a list of statements, each of which gives its own at a place
-abbrev pub lines_at : List (Place → List Line) → Place → List Line
+abbrev pub lines_at : {L : Type 0} → List (Surroundings → List L) → Surroundings → List L
 lines_at body p = chained (map (λ lines. lines p) body)
 
-abbrev pub other_lines_at : Option (List (Place → List Line)) → Place → List Line
+abbrev pub other_lines_at : {L : Type 0} → Option (List (Surroundings → List L)) → Surroundings → List L
 other_lines_at None p = []
 other_lines_at (Some body) p = lines_at body p
 
 -- the lines of the statements in a statement
-abbrev pub inner_lines : Stmt-F (Place → List Line) → Place → List Line
+abbrev pub inner_lines : {L : Type 0} → Stmt-F (Surroundings → List L) → Surroundings → List L
 inner_lines (Stmt-F.RoleOnly spot role body) p = lines_at body (inside_when p)
 inner_lines (Stmt-F.Branch spot test left right body other) p = lines_at body (inside_if p) ++ other_lines_at other (inside_if p)
 inner_lines (Stmt-F.Loop spot counter first last body) p = lines_at body (inside_for p)
 inner_lines simple p = []
 
-abbrev pub stmt_lines_level : Facts → Stmt-F (Place → List Line) → Place → List Line
+abbrev pub stmt_lines_level : Facts → Stmt-F (Surroundings → List Line) → Surroundings → List Line
 stmt_lines_level f s p = stmt_line f p s ∷ inner_lines s p
 
-abbrev pub stmt_lines : Facts → Stmt → Place → List Line
-stmt_lines f = fold-Stmt (Place → List Line) (stmt_lines_level f)
+abbrev pub stmt_lines : Facts → Stmt → Surroundings → List Line
+stmt_lines f = fold-Stmt (Surroundings → List Line) (stmt_lines_level f)
 
-abbrev pub stmts_lines : Facts → List Stmt → Place → List Line
+abbrev pub stmts_lines : Facts → List Stmt → Surroundings → List Line
 stmts_lines f ss p = chained (map (λ s. stmt_lines f s p) ss)
 
 -- the lines of a callback's statements behind so many
@@ -172,31 +153,40 @@ lines_of job =
 
 -- ---- acceptance
 
--- a job is accepted: none of its lines breaks a rule, and one pass takes at most 20,000 statements
+-- whether a line keeps a rule, and the reason for which the line is refused where it doesn't
+abbrev pub Rule : Type 0
+Rule = Bool × StaticFault
+
+-- the rules, in the order of the reasons
+abbrev pub rules_of : Line → List Rule
+rules_of l =
+    (l.known, UnknownName)
+    ∷ (l.once, NameTwice)
+    ∷ (l.in_range, OutOfRange)
+    ∷ (l.roomy, OutOfRange)
+    ∷ (l.uniform, NotUniform)
+    ∷ (l.placed, Misplaced)
+    ∷ (l.same_group, GroupDiffers)
+    ∷ (l.same_member, MemberDiffers)
+    ∷ (l.inside, SubsetOutside)
+    ∷ []
+
+abbrev pub IsKept : Rule → Type 0
+IsKept rule = rule.0 ≡ true
+
+-- a job is accepted: each of its lines keeps each rule, and one pass takes at most 20,000 statements
 pub record IsAccepted (job : Job) : Type 0 where
-  pub known : AllByRecursion (λ l. l.known ≡ true) (lines_of job)
-  pub once : AllByRecursion (λ l. l.once ≡ true) (lines_of job)
-  pub in_range : AllByRecursion (λ l. l.in_range ≡ true) (lines_of job)
-  pub roomy : AllByRecursion (λ l. l.roomy ≡ true) (lines_of job)
-  pub uniform : AllByRecursion (λ l. l.uniform ≡ true) (lines_of job)
-  pub placed : AllByRecursion (λ l. l.placed ≡ true) (lines_of job)
-  pub same_group : AllByRecursion (λ l. l.same_group ≡ true) (lines_of job)
-  pub same_member : AllByRecursion (λ l. l.same_member ≡ true) (lines_of job)
-  pub inside : AllByRecursion (λ l. l.inside ≡ true) (lines_of job)
+  pub kept : AllByRecursion (λ l. AllByRecursion IsKept (rules_of l)) (lines_of job)
   pub work : work_of job.body ≤ 20000
+
+-- the reason of the first rule that isn't kept
+abbrev pub first_broken : List Rule → Option StaticFault
+first_broken [] = None
+first_broken (rule ∷ rules) = if rule.0 then first_broken rules else Some rule.1
 
 -- the first reason for which a line is refused
 abbrev pub fault_of : Line → Option StaticFault
-fault_of l = if not l.known then Some UnknownName
-    else (if not l.once then Some NameTwice
-    else (if not l.in_range then Some OutOfRange
-    else (if not l.roomy then Some OutOfRange
-    else (if not l.uniform then Some NotUniform
-    else (if not l.placed then Some Misplaced
-    else (if not l.same_group then Some GroupDiffers
-    else (if not l.same_member then Some MemberDiffers
-    else (if not l.inside then Some SubsetOutside
-    else None))))))))
+fault_of l = first_broken (rules_of l)
 
 -- a reason and the place of its line
 pub record Refused : Type 0 where
@@ -221,14 +211,14 @@ abbrev pub refusal_of : Job → Option Refused
 refusal_of job = work_refused job (first_refused (lines_of job))
 
 -- this refusal, or memory ran out
-abbrev pub Refuses : CheckJob → Option Refused → Type 0
-Refuses (check.Refused fault spot) refusal = refusal ≡ Some (record { fault = fault; spot = spot })
-Refuses check.NoMemory refusal = Unit {0}
+abbrev pub Tells : CheckJob → Option Refused → Type 0
+Tells (check.Refused fault spot) refusal = refusal ≡ Some (record { fault = fault; spot = spot })
+Tells check.NoMemory refusal = Unit {0}
 
 -- the answer is what this refusal is: Ok exactly where there is none
 abbrev pub Answers : {X : Type 0} → Result X CheckJob → Option Refused → Type 0
 Answers (Ok x) refusal = refusal ≡ None
-Answers (Err e) refusal = Refuses e refusal
+Answers (Err e) refusal = Tells e refusal
 
 -- the answer isn't a refusal
 abbrev pub IsUnrefused : {X : Type 0} → Result X CheckJob → Type 0

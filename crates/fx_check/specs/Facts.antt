@@ -14,7 +14,6 @@ use Rattle.fx_script.specs.declared.job.Stmt.TheFolds.{fold-Stmt}
 use Rattle.fx_script.specs.Spelling.{chained}
 use Rattle.fx_check.specs.declared.tables.Attached.{Attached}
 use Rattle.fx_check.specs.declared.tables.Created.{Created}
-use Rattle.fx_check.specs.declared.tables.Tables.{Tables}
 
 -- ---- declarations
 
@@ -121,23 +120,23 @@ or_first None second = second
 or_first (Some x) second = Some x
 
 -- groups and members are numbered from 0 to 7
-abbrev pub is_eighth : ℤ → Bool
-is_eighth (pos n) = nat_le n 7
-is_eighth (negsuc n) = false
+abbrev pub is_one_of_eight : ℤ → Bool
+is_one_of_eight (pos n) = nat_le n 7
+is_one_of_eight (negsuc n) = false
 
 -- a list of creations was grown by these, so far as the first of each of the eight groups goes
 abbrev pub GrewCreated : List Created → List Created → List Created → Type 0
-GrewCreated old new more = (group : ℤ) → is_eighth group ≡ true → first_created new group ≡ or_first (first_created old group) (first_created more group)
+GrewCreated old new more = (group : ℤ) → is_one_of_eight group ≡ true → first_created new group ≡ or_first (first_created old group) (first_created more group)
 
 -- the same of attachments
 abbrev pub GrewAttached : List Attached → List Attached → List Attached → Type 0
-GrewAttached old new more = (group member : ℤ) → is_eighth group ≡ true → is_eighth member ≡ true
+GrewAttached old new more = (group member : ℤ) → is_one_of_eight group ≡ true → is_one_of_eight member ≡ true
     → first_attached new group member ≡ or_first (first_attached old group member) (first_attached more group member)
 
 -- tables of a body: they hold the first of each group and of each member of the body
-pub record AreTables (tables : Tables) (body : List Stmt) : Type 0 where
-  pub created : (group : ℤ) → is_eighth group ≡ true → first_created tables.created group ≡ first_created (created_in body) group
-  pub attached : (group member : ℤ) → is_eighth group ≡ true → is_eighth member ≡ true → first_attached tables.attached group member ≡ first_attached (attached_in body) group member
+pub record AreTables (creations : List Created) (attachments : List Attached) (body : List Stmt) : Type 0 where
+  pub created : (group : ℤ) → is_one_of_eight group ≡ true → first_created creations group ≡ first_created (created_in body) group
+  pub attached : (group member : ℤ) → is_one_of_eight group ≡ true → is_one_of_eight member ≡ true → first_attached attachments group member ≡ first_attached (attached_in body) group member
 
 -- ---- together
 

@@ -4,3 +4,4 @@ pub mod Work
 pub mod Acceptance
 pub mod Parts
 pub mod Holds
+pub mod Statements

@@ -1,15 +1,16 @@
 -- What an accepted job keeps, part by part, and what a refusal says.
-use Rattle.std.specs.Prelude.{◌≡◌, ◌≤◌, ◌<◌, ◌⊎◌, Bool, true, false, not, ◌&&◌, List, [], ◌∷◌, ◌++◌, Some, refl}
+use Rattle.std.specs.Prelude.{◌≡◌, ◌≤◌, ◌<◌, ◌⊎◌, Bool, true, false, not, List, ◌∷◌, ◌++◌, [], Some, refl}
 use Rattle.std.specs.List.{AllByRecursion, find}
+use Rattle.std.specs.Option.{option_map}
 use Rattle.fx_script.specs.declared.job.Job.{Job}
 use Rattle.fx_check.specs.declared.fault.StaticFault.{StaticFault}
-use Rattle.fx_check.specs.declared.fault.StaticFault.TheVariants.{UnknownName, NameTwice, OutOfRange, NotUniform, Misplaced, GroupDiffers, MemberDiffers, SubsetOutside, TooMuchWork}
-use Rattle.fx_check.specs.Acceptance.{Line, Refused, plain_line, decl_lines, callbacks_lines, stmts_lines, event_lines, lines_of, fault_of}
+use Rattle.fx_check.specs.declared.fault.StaticFault.TheVariants.{OutOfRange, TooMuchWork}
+use Rattle.fx_check.specs.Acceptance.{Line, Rule, Refused, plain_line, decl_lines, callbacks_lines, stmts_lines, event_lines, lines_of, rules_of, fault_of}
 use Rattle.fx_check.specs.Facts.{facts_of}
 use Rattle.fx_check.specs.Rules.{body_place, is_between, procs_of}
 use Rattle.fx_check.specs.Work.{work_of}
 
--- a line that keeps every rule
+-- a line that keeps every rule, by the rules' names
 pub record KeepsRules (l : Line) : Type 0 where
   pub known : l.known ≡ true
   pub once : l.once ≡ true
@@ -36,23 +37,15 @@ pub record KeepsByParts (job : Job) : Type 0 where
   pub events : KeepRules (event_lines (procs_of job) 0 job.events)
   pub work : work_of job.body ≤ 20000
 
--- the reasons that a line may give, in their order
-abbrev pub reasons : List StaticFault
-reasons = UnknownName ∷ NameTwice ∷ OutOfRange ∷ NotUniform ∷ Misplaced ∷ GroupDiffers ∷ MemberDiffers ∷ SubsetOutside ∷ []
+-- a rule that a line breaks
+abbrev pub is_broken : Rule → Bool
+is_broken rule = not rule.0
 
--- a line gives this reason
-abbrev pub gives : Line → StaticFault → Bool
-gives l UnknownName = not l.known
-gives l NameTwice = not l.once
-gives l OutOfRange = not (l.in_range && l.roomy)
-gives l NotUniform = not l.uniform
-gives l Misplaced = not l.placed
-gives l GroupDiffers = not l.same_group
-gives l MemberDiffers = not l.same_member
-gives l SubsetOutside = not l.inside
-gives l TooMuchWork = false
+-- the reason of a rule
+abbrev pub reason_of : Rule → StaticFault
+reason_of rule = rule.1
 
--- a refusal at the first of the lines that breaks a rule, for the first of the reasons that it gives
+-- a refusal at the first of the lines that breaks a rule, for the reason of the first rule that it breaks
 pub record IsFirstRefused (lines : List Line) (r : Refused) : Type 0 where
   pub front : List Line
   pub line : Line
@@ -60,7 +53,7 @@ pub record IsFirstRefused (lines : List Line) (r : Refused) : Type 0 where
   pub are : lines ≡ front ++ line ∷ behind
   pub kept : KeepRules front
   pub spot : line.spot ≡ r.spot
-  pub fault : find (gives line) reasons ≡ Some r.fault
+  pub fault : option_map reason_of (find is_broken (rules_of line)) ≡ Some r.fault
 
 -- too much work, where no line breaks a rule
 pub record IsTooMuch (job : Job) (r : Refused) : Type 0 where

@@ -18,9 +18,9 @@ use Rattle.fx_script.specs.declared.job.Picked.TheVariants as picked
 use Rattle.fx_script.specs.declared.job.Stmt.TheOpen.{Stmt-F}
 use Rattle.fx_subset.specs.declared.fault.SubsetFault.{SubsetFault}
 use Rattle.fx_subset.specs.Fault.{fault_of_blocks, fault_of_pairs, fault_of_whole}
-use Rattle.fx_check.specs.declared.place.Place.{Place}
+use Rattle.fx_check.specs.declared.surroundings.Surroundings.{Surroundings}
 use Rattle.fx_check.specs.declared.tables.Created.{Created}
-use Rattle.fx_check.specs.Facts.{Facts, is_eighth, array_in, is_array, is_counter, is_value, is_callback, has_group, has_member, first_created, first_attached}
+use Rattle.fx_check.specs.Facts.{Facts, is_one_of_eight, array_in, is_array, is_counter, is_value, is_callback, has_group, has_member, first_created, first_attached}
 
 -- ---- numbers
 
@@ -45,10 +45,10 @@ is_index_if None index = true
 is_index_if (Some len) index = is_index_of len index
 
 -- two arrays are of one length, where both are declared
-abbrev pub are_alike : Option ℤ → Option ℤ → Bool
-are_alike None b = true
-are_alike (Some a) None = true
-are_alike (Some a) (Some b) = int_eq a b
+abbrev pub are_of_one_length : Option ℤ → Option ℤ → Bool
+are_of_one_length None b = true
+are_of_one_length (Some a) None = true
+are_of_one_length (Some a) (Some b) = int_eq a b
 
 -- a number of a subset fits 32 bits
 abbrev pub fits_32 : ℤ → Bool
@@ -78,26 +78,26 @@ abbrev pub expr_known : Facts → Expr → Bool
 expr_known f = fold-Expr Bool (expr_known_level f)
 
 -- each group is one of eight
-abbrev pub expr_groups_level : Expr-F Bool → Bool
-expr_groups_level (Expr-F.Latest group) = is_eighth group
-expr_groups_level (Expr-F.Add left right) = left && right
-expr_groups_level (Expr-F.Sub left right) = left && right
-expr_groups_level (Expr-F.Mul left right) = left && right
-expr_groups_level leaf = true
+abbrev pub expr_groups_fit_level : Expr-F Bool → Bool
+expr_groups_fit_level (Expr-F.Latest group) = is_one_of_eight group
+expr_groups_fit_level (Expr-F.Add left right) = left && right
+expr_groups_fit_level (Expr-F.Sub left right) = left && right
+expr_groups_fit_level (Expr-F.Mul left right) = left && right
+expr_groups_fit_level leaf = true
 
-abbrev pub expr_groups : Expr → Bool
-expr_groups = fold-Expr Bool expr_groups_level
+abbrev pub expr_groups_fit : Expr → Bool
+expr_groups_fit = fold-Expr Bool expr_groups_fit_level
 
 -- each array is as long as this one
-abbrev pub expr_alike_level : Facts → Option ℤ → Expr-F Bool → Bool
-expr_alike_level f len (Expr-F.Name name) = are_alike len (array_in f.names name)
-expr_alike_level f len (Expr-F.Add left right) = left && right
-expr_alike_level f len (Expr-F.Sub left right) = left && right
-expr_alike_level f len (Expr-F.Mul left right) = left && right
-expr_alike_level f len leaf = true
+abbrev pub expr_lengths_fit_level : Facts → Option ℤ → Expr-F Bool → Bool
+expr_lengths_fit_level f len (Expr-F.Name name) = are_of_one_length len (array_in f.names name)
+expr_lengths_fit_level f len (Expr-F.Add left right) = left && right
+expr_lengths_fit_level f len (Expr-F.Sub left right) = left && right
+expr_lengths_fit_level f len (Expr-F.Mul left right) = left && right
+expr_lengths_fit_level f len leaf = true
 
-abbrev pub expr_alike : Facts → Option ℤ → Expr → Bool
-expr_alike f len = fold-Expr Bool (expr_alike_level f len)
+abbrev pub expr_lengths_fit : Facts → Option ℤ → Expr → Bool
+expr_lengths_fit f len = fold-Expr Bool (expr_lengths_fit_level f len)
 
 -- an expression with the same value on all ranks: no rank, no index and no array stands in it
 abbrev pub expr_uniform_level : Facts → Expr-F Bool → Bool
@@ -115,21 +115,21 @@ expr_uniform f = fold-Expr Bool (expr_uniform_level f)
 -- ---- where a statement stands
 
 -- the body
-abbrev pub body_place : Place
+abbrev pub body_place : Surroundings
 body_place = record { in_callback = false; before = 0; in_when = false; blocks = 0; loops = 0 }
 
 -- a callback, behind so many of its statements
-abbrev pub callback_place : ℕ → Place
+abbrev pub callback_place : ℕ → Surroundings
 callback_place before = record { in_callback = true; before = before; in_when = false; blocks = 0; loops = 0 }
 
 -- inside a block that stands there
-abbrev pub inside_when : Place → Place
+abbrev pub inside_when : Surroundings → Surroundings
 inside_when p = record p { in_when = true; blocks = p.blocks + 1 }
 
-abbrev pub inside_if : Place → Place
+abbrev pub inside_if : Surroundings → Surroundings
 inside_if p = record p { blocks = p.blocks + 1 }
 
-abbrev pub inside_for : Place → Place
+abbrev pub inside_for : Surroundings → Surroundings
 inside_for p = record p { blocks = p.blocks + 1; loops = p.loops + 1 }
 
 -- ---- the rules of statements
@@ -156,31 +156,31 @@ is_known f other = true
 
 -- its numbers are within their limits, and the arrays that it puts together are of one length
 abbrev pub is_in_range : {X : Type 0} → Facts → Stmt-F X → Bool
-is_in_range f (Stmt-F.Let spot array value) = expr_groups value && expr_alike f (array_in f.names array) value
-is_in_range f (Stmt-F.Set spot counter value) = expr_groups value
-is_in_range f (Stmt-F.Branch spot test left right body other) = expr_groups left && expr_groups right
-is_in_range f (Stmt-F.Loop spot counter first last body) = expr_groups first && is_between 0 9999 last
+is_in_range f (Stmt-F.Let spot array value) = expr_groups_fit value && expr_lengths_fit f (array_in f.names array) value
+is_in_range f (Stmt-F.Set spot counter value) = expr_groups_fit value
+is_in_range f (Stmt-F.Branch spot test left right body other) = expr_groups_fit left && expr_groups_fit right
+is_in_range f (Stmt-F.Loop spot counter first last body) = expr_groups_fit first && is_between 0 9999 last
 is_in_range f (Stmt-F.Agree spot counter array index) = is_index_if (array_in f.names array) index
-is_in_range f (Stmt-F.Shift spot source target by) = is_between 1 15 by && are_alike (array_in f.names source) (array_in f.names target)
-is_in_range f (Stmt-F.Group spot group start depth) = is_eighth group && is_between 0 1000000000 start && is_between 0 15 depth
-is_in_range f (Stmt-F.Member spot group member array) = is_eighth group && is_eighth member
-is_in_range f (Stmt-F.Store spot group member subset) = is_eighth group && is_eighth member && picked_fits_32 subset
-is_in_range f (Stmt-F.Commit spot group) = is_eighth group
-is_in_range f (Stmt-F.CommitBarrier spot group) = is_eighth group
-is_in_range f (Stmt-F.Restore spot group member stamp) = is_eighth group && is_eighth member && expr_groups stamp
-is_in_range f (Stmt-F.Drop spot group stamp) = is_eighth group && expr_groups stamp
+is_in_range f (Stmt-F.Shift spot source target by) = is_between 1 15 by && are_of_one_length (array_in f.names source) (array_in f.names target)
+is_in_range f (Stmt-F.Group spot group start depth) = is_one_of_eight group && is_between 0 1000000000 start && is_between 0 15 depth
+is_in_range f (Stmt-F.Member spot group member array) = is_one_of_eight group && is_one_of_eight member
+is_in_range f (Stmt-F.Store spot group member subset) = is_one_of_eight group && is_one_of_eight member && picked_fits_32 subset
+is_in_range f (Stmt-F.Commit spot group) = is_one_of_eight group
+is_in_range f (Stmt-F.CommitBarrier spot group) = is_one_of_eight group
+is_in_range f (Stmt-F.Restore spot group member stamp) = is_one_of_eight group && is_one_of_eight member && expr_groups_fit stamp
+is_in_range f (Stmt-F.Drop spot group stamp) = is_one_of_eight group && expr_groups_fit stamp
 is_in_range f other = true
 
 -- there is room for it: a block stands in at most seven others, a loop in at most three, and a callback has at most 16
 -- statements
-abbrev pub has_room : {X : Type 0} → Place → Stmt-F X → Bool
+abbrev pub has_room : {X : Type 0} → Surroundings → Stmt-F X → Bool
 has_room p (Stmt-F.RoleOnly spot role body) = nat_lt p.before 16 && nat_lt p.blocks 8
 has_room p (Stmt-F.Branch spot test left right body other) = nat_lt p.before 16 && nat_lt p.blocks 8
 has_room p (Stmt-F.Loop spot counter first last body) = nat_lt p.before 16 && nat_lt p.blocks 8 && nat_lt p.loops 4
 has_room p simple = nat_lt p.before 16
 
 -- control and stamps are the same on all ranks: their expressions are uniform, and no counter is set inside `when`
-abbrev pub is_uniform : {X : Type 0} → Facts → Place → Stmt-F X → Bool
+abbrev pub is_uniform : {X : Type 0} → Facts → Surroundings → Stmt-F X → Bool
 is_uniform f p (Stmt-F.Set spot counter value) = not p.in_when && expr_uniform f value
 is_uniform f p (Stmt-F.Loop spot counter first last body) = not p.in_when && expr_uniform f first
 is_uniform f p (Stmt-F.Branch spot test left right body other) = expr_uniform f left && expr_uniform f right
@@ -189,26 +189,26 @@ is_uniform f p (Stmt-F.Drop spot group stamp) = expr_uniform f stamp
 is_uniform f p other = true
 
 -- a statement that all ranks must come to, or that changes what a group keeps
-abbrev pub is_for_all : {X : Type 0} → Stmt-F X → Bool
-is_for_all (Stmt-F.Barrier spot) = true
-is_for_all (Stmt-F.Reduce spot op counter array) = true
-is_for_all (Stmt-F.Agree spot counter array index) = true
-is_for_all (Stmt-F.Shift spot source target by) = true
-is_for_all (Stmt-F.Group spot group start depth) = true
-is_for_all (Stmt-F.Commit spot group) = true
-is_for_all (Stmt-F.CommitBarrier spot group) = true
-is_for_all (Stmt-F.Drop spot group stamp) = true
-is_for_all other = false
+abbrev pub is_collective : {X : Type 0} → Stmt-F X → Bool
+is_collective (Stmt-F.Barrier spot) = true
+is_collective (Stmt-F.Reduce spot op counter array) = true
+is_collective (Stmt-F.Agree spot counter array index) = true
+is_collective (Stmt-F.Shift spot source target by) = true
+is_collective (Stmt-F.Group spot group start depth) = true
+is_collective (Stmt-F.Commit spot group) = true
+is_collective (Stmt-F.CommitBarrier spot group) = true
+is_collective (Stmt-F.Drop spot group stamp) = true
+is_collective other = false
 
 -- a statement that a callback may have
-abbrev pub is_local : {X : Type 0} → Stmt-F X → Bool
-is_local (Stmt-F.Let spot array value) = true
-is_local (Stmt-F.Print spot name) = true
-is_local other = false
+abbrev pub may_stand_in_callback : {X : Type 0} → Stmt-F X → Bool
+may_stand_in_callback (Stmt-F.Let spot array value) = true
+may_stand_in_callback (Stmt-F.Print spot name) = true
+may_stand_in_callback other = false
 
 -- it may stand where it stands: none that is for all inside `when`, and in a callback only those that it may have
-abbrev pub is_placed : {X : Type 0} → Place → Stmt-F X → Bool
-is_placed p s = not (p.in_when && is_for_all s) && not (p.in_callback && not (is_local s))
+abbrev pub is_placed : {X : Type 0} → Surroundings → Stmt-F X → Bool
+is_placed p s = not (p.in_when && is_collective s) && not (p.in_callback && not (may_stand_in_callback s))
 
 -- a group is created with this start stamp and this depth, where it is created at all
 abbrev pub is_same_creation : Option Created → ℤ → ℤ → Bool

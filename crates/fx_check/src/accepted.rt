@@ -42,7 +42,8 @@ impl Accepted {
         Accepted { job, procs, work }
     }
 
-    /// The job. It keeps every rule, as a whole and part by part, and some text spells it, its spots aside.
+    /// The job. It keeps every rule, as a whole and part by part, and some text spells it, its spots
+    /// aside.
     pub fn job(&self) -> &Job
         ensures same { result.now ≡ self.now }
         ensures accepted { IsAccepted self.now }
@@ -61,8 +62,8 @@ impl Accepted {
         self.procs
     }
 
-    /// The work of the body, at most 20,000: a statement counts 1, and a loop its test and its statements for each
-    /// turn that it may take.
+    /// The work of the body, at most 20,000: a statement counts 1, and a loop its test and its
+    /// statements for each turn that it may take.
     pub fn work(&self) -> u32
         ensures same { result ≡ work_of self.now.body }
         ensures at_most { result ≤ 20000 }

@@ -1,41 +1,41 @@
 ghost use Rattle.std.specs.Prelude.{◌≡◌, ◌∷◌, []};
 ghost use Rattle.fx_check.specs.Acceptance.{Answers, callback_body_lines, callback_line, callbacks_lines, first_refused};
-ghost use Rattle.fx_check.specs.Facts.{AreTables, facts_of};
+ghost use Rattle.fx_check.specs.Facts.{facts_of};
 
 use crate::fault::{CheckJob, StaticFault};
+use crate::limits::MOST_CALLBACKS;
 use crate::lookup::{is_called, is_declared};
-use crate::place::Place;
-use crate::tables::Tables;
+use crate::surroundings::Surroundings;
+use crate::tables::IndexedJob;
 use crate::walk::check_stmt;
-use fx_script::{Callback, Job, Stmt};
+use fx_script::{Callback, Stmt};
 use std::alloc::Global;
-
-/// The most callbacks.
-const MOST_CALLBACKS: usize = 8;
 
 /// Checks the callbacks of a job.
 pub fn check_callbacks(
     alloc: Global,
-    job: &Job,
-    tables: &Tables,
+    job: &IndexedJob,
     callbacks: &[Callback],
 ) -> Result<(), CheckJob>
-    requires { AreTables tables.now job.now.body }
     ensures { Answers result (first_refused (callbacks_lines (facts_of job.now) [] callbacks.now)) }
 {
     for (index, callback) in callbacks.iter().enumerate() {
         check_callback(job, &callbacks[..index], callback)?;
-        check_body(alloc, job, tables, callback.body.as_slice())?;
+        check_body(alloc, job, callback.body.as_slice())?;
     }
     Ok(())
 }
 
 // Checks the first line of a callback behind these.
-fn check_callback(job: &Job, before: &[Callback], callback: &Callback) -> Result<(), CheckJob>
+fn check_callback(
+    job: &IndexedJob,
+    before: &[Callback],
+    callback: &Callback,
+) -> Result<(), CheckJob>
     ensures { Answers result (first_refused (callback_line (facts_of job.now) before.now callback.now ∷ [])) }
 {
     let name = callback.name.as_slice();
-    if is_declared(name, job.names.as_slice()) || is_called(name, before) {
+    if is_declared(name, job.names()) || is_called(name, before) {
         return Err(CheckJob::Refused(StaticFault::NameTwice, callback.spot));
     }
     if before.len() >= MOST_CALLBACKS {
@@ -45,12 +45,11 @@ fn check_callback(job: &Job, before: &[Callback], callback: &Callback) -> Result
 }
 
 // Checks the statements of a callback.
-fn check_body(alloc: Global, job: &Job, tables: &Tables, body: &[Stmt]) -> Result<(), CheckJob>
-    requires { AreTables tables.now job.now.body }
+fn check_body(alloc: Global, job: &IndexedJob, body: &[Stmt]) -> Result<(), CheckJob>
     ensures { Answers result (first_refused (callback_body_lines (facts_of job.now) 0 body.now)) }
 {
     for (index, statement) in body.iter().enumerate() {
-        check_stmt(alloc, job, tables, Place::callback(index as u64), statement)?;
+        check_stmt(alloc, job, Surroundings::callback(index as u64), statement)?;
     }
     Ok(())
 }

@@ -7,20 +7,18 @@ use crate::accepted::Accepted;
 use crate::called::check_callbacks;
 use crate::fault::{CheckJob, StaticFault};
 use crate::head::{check_events, check_head, check_names};
-use crate::place::Place;
-use crate::tables::Tables;
+use crate::limits::MOST_WORK;
+use crate::surroundings::Surroundings;
+use crate::tables::IndexedJob;
 use crate::walk::check_stmts;
 use crate::work::work_up_to_limit;
 use fx_script::Job;
 use std::alloc::Global;
 
-/// The most statements that one pass may take.
-const MOST_WORK: u32 = 20_000;
-
 /// Checks a job. Some text spells it, its spots aside, as is so for every job that was read.
 ///
-/// A job that breaks a rule is refused at the first line that does, for the first of its reasons; too much work comes
-/// last, at the line `begin`. A refused job is dropped.
+/// A job that breaks a rule is refused at the first line that does, for the first of its reasons;
+/// too much work comes last, at the line `begin`. A refused job is dropped.
 pub fn check_job(alloc: Global, job: Job) -> Result<Accepted, CheckJob>
     requires { HasText job }
     // What is accepted is this job.
@@ -55,9 +53,9 @@ fn check_lines(alloc: Global, job: &Job) -> Result<u8, CheckJob>
 {
     let procs = check_head(job)?;
     check_names(job.names.as_slice())?;
-    let tables = Tables::of_body(alloc, job.body.as_slice())?;
-    check_callbacks(alloc, job, &tables, job.callbacks.as_slice())?;
-    check_stmts(alloc, job, &tables, Place::body(), job.body.as_slice())?;
+    let indexed = IndexedJob::new(alloc, job)?;
+    check_callbacks(alloc, &indexed, job.callbacks.as_slice())?;
+    check_stmts(alloc, &indexed, Surroundings::body(), job.body.as_slice())?;
     check_events(procs, job.events.as_slice())?;
     Ok(procs)
 }

@@ -1,14 +1,16 @@
 use fx_base::{NoMemory, Spot};
 
-/// Why a job isn't accepted. Where a line gives several reasons, the first of this order is answered.
+/// Why a job isn't accepted. Where a line gives several reasons, the first of this order is
+/// answered.
 #[derive(Clone, Copy, Debug, PartialEq, Eq)]
 pub enum StaticFault {
-    /// A name isn't declared as the kind that is needed, or no statement of the body creates the group or attaches
-    /// the member.
+    /// A name isn't declared as the kind that is needed, or no statement of the body creates the
+    /// group or attaches the member.
     UnknownName,
     /// A declaration repeats a name.
     NameTwice,
-    /// A number is past its limit, there is one thing too many, or arrays that are put together differ in length.
+    /// A number is past its limit, there is one thing too many, or arrays that are put together
+    /// differ in length.
     OutOfRange,
     /// Control or a stamp may differ between ranks.
     NotUniform,

@@ -5,26 +5,13 @@ ghost use Rattle.fx_check.specs.Facts.{is_array_decl, is_counter_decl};
 ghost use Rattle.fx_check.specs.Rules.{is_event_in_range, procs_of};
 
 use crate::fault::{CheckJob, StaticFault};
+use crate::limits::{
+    LAST_SEPARATION, MOST_ARRAYS, MOST_COUNTERS, MOST_ELEMENTS, MOST_EVENTS, MOST_PROCS,
+    MOST_ROUNDS,
+};
 use crate::lookup::{decl_spot, is_declared, name_of};
 use crate::range::{is_between, is_process};
 use fx_script::{Decl, Event, EventKind, Job};
-
-// The most processes, ranks and spares together, and the greatest separation.
-const MOST_PROCS: u32 = 16;
-
-const LAST_SEPARATION: u32 = 15;
-
-// The most arrays, elements of an array, and counters.
-const MOST_ARRAYS: usize = 8;
-
-const MOST_ELEMENTS: u32 = 256;
-
-const MOST_COUNTERS: usize = 16;
-
-// The most events, and the most rounds of one `run`.
-const MOST_EVENTS: usize = 100_000;
-
-const MOST_ROUNDS: u32 = 1_000;
 
 /// Checks the first lines of a job, and gives how many processes it has.
 pub fn check_head(job: &Job) -> Result<u8, CheckJob>

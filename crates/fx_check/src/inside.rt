@@ -1,29 +1,22 @@
 ghost use Rattle.std.specs.Prelude.{◌≡◌, IfOk, Option, map, true};
 ghost use Rattle.std.specs.List.{list_all};
+ghost use Rattle.fx_script.specs.declared.job.Stmt.TheViews.{out-Stmt};
 ghost use Rattle.fx_subset.specs.declared.fault.SubsetFault.{SubsetFault};
 ghost use Rattle.fx_subset.specs.Fault.{Refuses};
-ghost use Rattle.fx_check.specs.Acceptance.{line_of};
-ghost use Rattle.fx_check.specs.Facts.{AreTables, array_in, facts_of};
-ghost use Rattle.fx_check.specs.Rules.{count_of, fits_32, is_faultless, lies_in, pair_fits_32, pair_of, picked_fits_32, subset_fault};
+ghost use Rattle.fx_check.specs.Facts.{array_in, facts_of};
+ghost use Rattle.fx_check.specs.Rules.{count_of, fits_32, is_faultless, lies_in, pair_fits_32, pair_of, picked_fits_32, stores_inside, subset_fault};
 
-use crate::lookup::{array_in, attachment_of};
-use crate::place::Place;
+use crate::lookup::array_in;
 use crate::range::{fits_32, picked_fits_32};
-use crate::tables::Tables;
+use crate::tables::IndexedJob;
 use fx_base::{NoMemory, Pairs};
-use fx_script::{Job, Picked, Stmt};
+use fx_script::{Picked, Stmt};
 use fx_subset::{MakeSubset, Subset, full, ranges, strided};
 use std::alloc::Global;
 
 /// Whether what a statement stores lies in the array of its member.
-pub fn stores_inside(
-    alloc: Global,
-    job: &Job,
-    tables: &Tables,
-    statement: &Stmt,
-) -> Result<bool, NoMemory>
-    requires { AreTables tables.now job.now.body }
-    ensures { (place : Place) → IfOk result (λ inside. inside ≡ (line_of (facts_of job.now) place statement.now).inside) }
+pub fn stores_inside(alloc: Global, job: &IndexedJob, statement: &Stmt) -> Result<bool, NoMemory>
+    ensures { IfOk result (λ inside. inside ≡ stores_inside (facts_of job.now) (out-Stmt statement.now)) }
 {
     match statement {
         Stmt::Store {
@@ -31,8 +24,8 @@ pub fn stores_inside(
             member,
             subset,
             ..
-        } => match attachment_of(job, tables, *group, *member) {
-            Some(array) => lies_in(alloc, array_in(job.names.as_slice(), array), subset),
+        } => match job.attachment_of(*group, *member) {
+            Some(array) => lies_in(alloc, array_in(job.names(), array), subset),
             None => Ok(true),
         },
         _ => Ok(true),

@@ -9,10 +9,11 @@ mod fault;
 mod head;
 mod inside;
 pub mod laws;
+mod limits;
 mod lookup;
-mod place;
 mod range;
 mod rules;
+mod surroundings;
 mod tables;
 mod walk;
 mod work;
@@ -20,7 +21,6 @@ mod work;
 pub use accepted::Accepted;
 pub use check::check_job;
 pub use fault::{CheckJob, StaticFault};
-pub use place::Place;
 
 #[cfg(test)]
 mod tests;

@@ -3,11 +3,11 @@ ghost use Rattle.std.specs.List.{list_any};
 ghost use Rattle.std.specs.Option.{option_copied};
 ghost use Rattle.std.specs.Ordering.{int_eq};
 ghost use Rattle.std.specs.Str.{bytes_eq};
-ghost use Rattle.fx_check.specs.Facts.{AreTables, array_in, attached_by, attached_in, created_by, created_in, decl_spot, facts_of, first_attached, first_created, has_group, has_member, is_array, is_array_decl, is_call_of, is_callback, is_counter, is_counter_decl, is_counter_of, is_of, is_value, name_of};
+ghost use Rattle.fx_check.specs.Facts.{array_in, attached_by, attached_in, created_by, created_in, decl_spot, facts_of, first_attached, first_created, is_array, is_call_of, is_callback, is_counter, is_counter_of, is_of, is_value, name_of};
 
-use crate::tables::{Created, Tables, first_attached, first_created, is_eighth};
-use fx_base::{Bytes, Spot};
-use fx_script::{Callback, Decl, Job, Stmt};
+use crate::tables::{Created, IndexedJob};
+use fx_base::Spot;
+use fx_script::{Callback, Decl, Stmt};
 
 // ---- declarations
 
@@ -81,45 +81,17 @@ fn is_counter_of(name: &[u8], decl: &Decl) -> bool
 }
 
 /// Whether an array or a counter has this name.
-pub fn is_value(job: &Job, name: &[u8]) -> bool
+pub fn is_value(job: &IndexedJob, name: &[u8]) -> bool
     ensures { result ≡ is_value (facts_of job.now) name.now }
 {
-    is_array(job.names.as_slice(), name) || is_counter(job.names.as_slice(), name)
+    is_declared(name, job.names())
 }
 
 // ---- groups and members
 
-/// The first creation of a group. Groups other than the eight aren't in the tables.
-pub fn creation_of(job: &Job, tables: &Tables, group: i64) -> Option<Created>
-    requires { AreTables tables.now job.now.body }
-    ensures { result ≡ first_created (created_in job.now.body) group }
-{
-    if is_eighth(group) {
-        first_created(tables.created.as_slice(), group)
-    } else {
-        created_in(job.body.as_slice(), &group)
-    }
-}
-
-/// The array that is attached first to a member of a group.
-pub fn attachment_of<'a>(
-    job: &'a Job,
-    tables: &'a Tables,
-    group: i64,
-    member: i64,
-) -> Option<&'a [u8]>
-    requires { AreTables tables.now job.now.body }
-    ensures { option_copied result ≡ first_attached (attached_in job.now.body) group member }
-{
-    if is_eighth(group) && is_eighth(member) {
-        first_attached(tables.attached.as_slice(), group, member)
-    } else {
-        attached_in(job.body.as_slice(), &group, &member)
-    }
-}
-
+/// The first creation of a group in a body.
 #[cycle(created_in)]
-fn created_in(body: &[Stmt], group: &i64) -> Option<Created>
+pub fn created_in(body: &[Stmt], group: &i64) -> Option<Created>
     ensures { result ≡ first_created (created_in body.now) group.now }
 {
     for statement in body {
@@ -162,8 +134,9 @@ fn created_by(statement: &Stmt, wanted: &i64) -> Option<Created>
     }
 }
 
+/// The array that is attached first to a member of a group in a body.
 #[cycle(attached_in)]
-fn attached_in<'a>(body: &'a [Stmt], group: &i64, member: &i64) -> Option<&'a [u8]>
+pub fn attached_in<'a>(body: &'a [Stmt], group: &i64, member: &i64) -> Option<&'a [u8]>
     ensures { option_copied result ≡ first_attached (attached_in body.now) group.now member.now }
 {
     for statement in body {

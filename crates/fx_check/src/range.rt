@@ -1,7 +1,7 @@
 ghost use Rattle.std.specs.Prelude.{◌≡◌};
 ghost use Rattle.std.specs.List.{list_all};
 ghost use Rattle.std.specs.Ordering.{int_eq};
-ghost use Rattle.fx_check.specs.Rules.{are_alike, fits_32, is_between, is_index_if, is_process, pair_fits_32, picked_fits_32};
+ghost use Rattle.fx_check.specs.Rules.{are_of_one_length, fits_32, is_between, is_index_if, is_process, pair_fits_32, picked_fits_32};
 
 use fx_script::Picked;
 
@@ -23,8 +23,8 @@ pub fn is_index_if(len: Option<i64>, index: i64) -> bool
 }
 
 /// Whether two arrays are of one length, where both are declared.
-pub fn are_alike(left: Option<i64>, right: Option<i64>) -> bool
-    ensures { result ≡ are_alike left right }
+pub fn are_of_one_length(left: Option<i64>, right: Option<i64>) -> bool
+    ensures { result ≡ are_of_one_length left right }
 {
     match (left, right) {
         (Some(left), Some(right)) => left == right,

@@ -1,53 +1,35 @@
 ghost use Rattle.std.specs.Prelude.{◌≡◌, ◌&&◌};
-ghost use Rattle.fx_check.specs.Acceptance.{line_of};
-ghost use Rattle.fx_check.specs.Facts.{AreTables, Facts, array_in, facts_of, has_member};
-ghost use Rattle.fx_check.specs.Rules.{expr_alike, expr_groups, is_same_attachment, is_same_creation};
+ghost use Rattle.fx_script.specs.declared.job.Stmt.TheViews.{out-Stmt};
+ghost use Rattle.fx_check.specs.Facts.{facts_of, has_member};
+ghost use Rattle.fx_check.specs.Rules.{agrees_on_group, agrees_on_member, expr_groups_fit, expr_lengths_fit, has_room, is_in_range, is_known, is_placed, is_uniform};
 
-use crate::exprs::{expr_alike, expr_groups, expr_known, expr_uniform, has_group};
-use crate::lookup::{
-    array_in, attachment_of, creation_of, is_array, is_called, is_counter, is_value,
+use crate::exprs::{expr_groups_fit, expr_known, expr_lengths_fit, expr_uniform, has_group};
+use crate::limits::{
+    LAST_DEPTH, LAST_SHIFT, LAST_START, LAST_TURN, MOST_BLOCKS, MOST_CALLED, MOST_LOOPS,
 };
-use crate::place::Place;
-use crate::range::{are_alike, is_between, is_index_if, picked_fits_32};
-use crate::tables::{Tables, is_eighth};
-use fx_script::{Expr, Job, Stmt};
-
-// The greatest start stamp, depth, distance of a shift and last value of a loop.
-const LAST_START: u32 = 1_000_000_000;
-
-const LAST_DEPTH: u32 = 15;
-
-const LAST_SHIFT: u32 = 15;
-
-const LAST_TURN: u32 = 9_999;
-
-// How many blocks and loops may stand in one another, and how many statements a callback may have.
-const MOST_BLOCKS: u32 = 8;
-
-const MOST_LOOPS: u32 = 4;
-
-const MOST_CALLED: u64 = 16;
+use crate::lookup::{array_in, is_array, is_called, is_counter, is_value};
+use crate::range::{are_of_one_length, is_between, is_index_if, picked_fits_32};
+use crate::surroundings::Surroundings;
+use crate::tables::{IndexedJob, is_one_of_eight};
+use fx_script::{Expr, Stmt};
 
 /// Whether a statement names only what is declared, each as the kind that is needed.
-pub fn is_known(job: &Job, tables: &Tables, statement: &Stmt) -> bool
-    requires { AreTables tables.now job.now.body }
-    ensures { (place : Place) → result ≡ (line_of (facts_of job.now) place statement.now).known }
+pub fn is_known(job: &IndexedJob, statement: &Stmt) -> bool
+    ensures { result ≡ is_known (facts_of job.now) (out-Stmt statement.now) }
 {
-    let names = job.names.as_slice();
+    let names = job.names();
     match statement {
         Stmt::Let { array, value, .. } => {
-            is_array(names, array.as_slice()) && expr_known(job, tables, value)
+            is_array(names, array.as_slice()) && expr_known(job, value)
         }
         Stmt::Set { counter, value, .. } => {
-            is_counter(names, counter.as_slice()) && expr_known(job, tables, value)
+            is_counter(names, counter.as_slice()) && expr_known(job, value)
         }
         Stmt::Print { name, .. } => is_value(job, name.as_slice()),
-        Stmt::Register { name, .. } => is_called(name.as_slice(), job.callbacks.as_slice()),
-        Stmt::Branch { left, right, .. } => {
-            expr_known(job, tables, left) && expr_known(job, tables, right)
-        }
+        Stmt::Register { name, .. } => is_called(name.as_slice(), job.callbacks()),
+        Stmt::Branch { left, right, .. } => { expr_known(job, left) && expr_known(job, right) }
         Stmt::Loop { counter, first, .. } => {
-            is_counter(names, counter.as_slice()) && expr_known(job, tables, first)
+            is_counter(names, counter.as_slice()) && expr_known(job, first)
         }
         Stmt::Reduce { counter, array, .. } | Stmt::Agree { counter, array, .. } => {
             is_counter(names, counter.as_slice()) && is_array(names, array.as_slice())
@@ -57,12 +39,12 @@ pub fn is_known(job: &Job, tables: &Tables, statement: &Stmt) -> bool
         }
         Stmt::Group { group, .. }
         | Stmt::Commit { group, .. }
-        | Stmt::CommitBarrier { group, .. } => has_group(job, tables, *group),
+        | Stmt::CommitBarrier { group, .. } => has_group(job, *group),
         Stmt::Member { group, array, .. } => {
-            has_group(job, tables, *group) && is_array(names, array.as_slice())
+            has_group(job, *group) && is_array(names, array.as_slice())
         }
         Stmt::Store { group, member, .. } => {
-            has_group(job, tables, *group) && has_member(job, tables, *group, *member)
+            has_group(job, *group) && has_member(job, *group, *member)
         }
         Stmt::Restore {
             group,
@@ -70,34 +52,32 @@ pub fn is_known(job: &Job, tables: &Tables, statement: &Stmt) -> bool
             stamp,
             ..
         } => {
-            has_group(job, tables, *group)
-                && has_member(job, tables, *group, *member)
-                && expr_known(job, tables, stamp)
+            has_group(job, *group) && has_member(job, *group, *member) && expr_known(job, stamp)
         }
-        Stmt::Drop { group, stamp, .. } => {
-            has_group(job, tables, *group) && expr_known(job, tables, stamp)
-        }
+        Stmt::Drop { group, stamp, .. } => { has_group(job, *group) && expr_known(job, stamp) }
         Stmt::RoleOnly { .. } | Stmt::Barrier { .. } => true,
     }
 }
 
-fn has_member(job: &Job, tables: &Tables, group: i64, member: i64) -> bool
-    requires { AreTables tables.now job.now.body }
+fn has_member(job: &IndexedJob, group: i64, member: i64) -> bool
     ensures { result ≡ has_member (facts_of job.now) group member }
 {
-    attachment_of(job, tables, group, member).is_some()
+    job.attachment_of(group, member).is_some()
 }
 
-/// Whether the numbers of a statement are within their limits, and the arrays that it puts together of one length.
-pub fn is_in_range(job: &Job, statement: &Stmt) -> bool
-    ensures { (place : Place) → result ≡ (line_of (facts_of job.now) place statement.now).in_range }
+/// Whether the numbers of a statement are within their limits, and the arrays that it puts together
+/// of one length.
+pub fn is_in_range(job: &IndexedJob, statement: &Stmt) -> bool
+    ensures { result ≡ is_in_range (facts_of job.now) (out-Stmt statement.now) }
 {
-    let names = job.names.as_slice();
+    let names = job.names();
     match statement {
-        Stmt::Let { array, value, .. } => { is_let_in_range(job, array.as_slice(), value) }
-        Stmt::Set { value, .. } => expr_groups(value),
-        Stmt::Branch { left, right, .. } => expr_groups(left) && expr_groups(right),
-        Stmt::Loop { first, last, .. } => expr_groups(first) && is_between(0, LAST_TURN, *last),
+        Stmt::Let { array, value, .. } => {
+            is_value_in_range(job, array_in(names, array.as_slice()), value)
+        }
+        Stmt::Set { value, .. } => expr_groups_fit(value),
+        Stmt::Branch { left, right, .. } => expr_groups_fit(left) && expr_groups_fit(right),
+        Stmt::Loop { first, last, .. } => expr_groups_fit(first) && is_between(0, LAST_TURN, *last),
         Stmt::Agree { array, index, .. } => is_index_if(array_in(names, array.as_slice()), *index),
         Stmt::Shift {
             source,
@@ -106,7 +86,7 @@ pub fn is_in_range(job: &Job, statement: &Stmt) -> bool
             ..
         } => {
             is_between(1, LAST_SHIFT, *by)
-                && are_alike(
+                && are_of_one_length(
                     array_in(names, source.as_slice()),
                     array_in(names, target.as_slice()),
                 )
@@ -117,25 +97,25 @@ pub fn is_in_range(job: &Job, statement: &Stmt) -> bool
             depth,
             ..
         } => {
-            is_eighth(*group)
+            is_one_of_eight(*group)
                 && is_between(0, LAST_START, *start)
                 && is_between(0, LAST_DEPTH, *depth)
         }
-        Stmt::Member { group, member, .. } => is_eighth(*group) && is_eighth(*member),
+        Stmt::Member { group, member, .. } => is_one_of_eight(*group) && is_one_of_eight(*member),
         Stmt::Store {
             group,
             member,
             subset,
             ..
-        } => is_eighth(*group) && is_eighth(*member) && picked_fits_32(subset),
-        Stmt::Commit { group, .. } | Stmt::CommitBarrier { group, .. } => is_eighth(*group),
+        } => is_one_of_eight(*group) && is_one_of_eight(*member) && picked_fits_32(subset),
+        Stmt::Commit { group, .. } | Stmt::CommitBarrier { group, .. } => is_one_of_eight(*group),
         Stmt::Restore {
             group,
             member,
             stamp,
             ..
-        } => is_eighth(*group) && is_eighth(*member) && expr_groups(stamp),
-        Stmt::Drop { group, stamp, .. } => is_eighth(*group) && expr_groups(stamp),
+        } => is_one_of_eight(*group) && is_one_of_eight(*member) && expr_groups_fit(stamp),
+        Stmt::Drop { group, stamp, .. } => is_one_of_eight(*group) && expr_groups_fit(stamp),
         Stmt::Print { .. }
         | Stmt::Register { .. }
         | Stmt::RoleOnly { .. }
@@ -144,15 +124,17 @@ pub fn is_in_range(job: &Job, statement: &Stmt) -> bool
     }
 }
 
-fn is_let_in_range(job: &Job, array: &[u8], value: &Expr) -> bool
-    ensures { result ≡ (expr_groups value.now && expr_alike (facts_of job.now) (array_in job.now.names array.now) value.now) }
+// Whether an expression is in range as what is put into an array of this length.
+fn is_value_in_range(job: &IndexedJob, len: Option<i64>, value: &Expr) -> bool
+    ensures { result ≡ (expr_groups_fit value.now && expr_lengths_fit (facts_of job.now) len value.now) }
 {
-    expr_groups(value) && expr_alike(job, array, value)
+    expr_groups_fit(value) && expr_lengths_fit(job, len, value)
 }
 
-/// Whether there is room for a statement: in the blocks and loops that are open, and in its callback.
-pub fn has_room(place: Place, statement: &Stmt) -> bool
-    ensures { (facts : Facts) → result ≡ (line_of facts place statement.now).roomy }
+/// Whether there is room for a statement: in the blocks and loops that are open, and in its
+/// callback.
+pub fn has_room(place: Surroundings, statement: &Stmt) -> bool
+    ensures { result ≡ has_room place (out-Stmt statement.now) }
 {
     let called = place.before < MOST_CALLED;
     match statement {
@@ -163,8 +145,8 @@ pub fn has_room(place: Place, statement: &Stmt) -> bool
 }
 
 /// Whether control and stamps are the same on all ranks.
-pub fn is_uniform(job: &Job, place: Place, statement: &Stmt) -> bool
-    ensures { result ≡ (line_of (facts_of job.now) place statement.now).uniform }
+pub fn is_uniform(job: &IndexedJob, place: Surroundings, statement: &Stmt) -> bool
+    ensures { result ≡ is_uniform (facts_of job.now) place (out-Stmt statement.now) }
 {
     match statement {
         Stmt::Set { value, .. } => !place.in_when && expr_uniform(job, value),
@@ -177,8 +159,8 @@ pub fn is_uniform(job: &Job, place: Place, statement: &Stmt) -> bool
 }
 
 /// Whether a statement may stand inside `when` or in a callback, where it stands there.
-pub fn is_placed(place: Place, statement: &Stmt) -> bool
-    ensures { (facts : Facts) → result ≡ (line_of facts place statement.now).placed }
+pub fn is_placed(place: Surroundings, statement: &Stmt) -> bool
+    ensures { result ≡ is_placed place (out-Stmt statement.now) }
 {
     match statement {
         Stmt::Let { .. } | Stmt::Print { .. } => true,
@@ -195,9 +177,8 @@ pub fn is_placed(place: Place, statement: &Stmt) -> bool
 }
 
 /// Whether a statement creates its group as the first that creates it does.
-pub fn agrees_on_group(job: &Job, tables: &Tables, statement: &Stmt) -> bool
-    requires { AreTables tables.now job.now.body }
-    ensures { (place : Place) → result ≡ (line_of (facts_of job.now) place statement.now).same_group }
+pub fn agrees_on_group(job: &IndexedJob, statement: &Stmt) -> bool
+    ensures { result ≡ agrees_on_group (facts_of job.now) (out-Stmt statement.now) }
 {
     match statement {
         Stmt::Group {
@@ -205,7 +186,7 @@ pub fn agrees_on_group(job: &Job, tables: &Tables, statement: &Stmt) -> bool
             start,
             depth,
             ..
-        } => match creation_of(job, tables, *group) {
+        } => match job.creation_of(*group) {
             Some(first) => first.start == *start && first.depth == *depth,
             None => true,
         },
@@ -214,9 +195,8 @@ pub fn agrees_on_group(job: &Job, tables: &Tables, statement: &Stmt) -> bool
 }
 
 /// Whether a statement attaches to its member the array that the first that attaches it does.
-pub fn agrees_on_member(job: &Job, tables: &Tables, statement: &Stmt) -> bool
-    requires { AreTables tables.now job.now.body }
-    ensures { (place : Place) → result ≡ (line_of (facts_of job.now) place statement.now).same_member }
+pub fn agrees_on_member(job: &IndexedJob, statement: &Stmt) -> bool
+    ensures { result ≡ agrees_on_member (facts_of job.now) (out-Stmt statement.now) }
 {
     match statement {
         Stmt::Member {
@@ -224,7 +204,7 @@ pub fn agrees_on_member(job: &Job, tables: &Tables, statement: &Stmt) -> bool
             member,
             array,
             ..
-        } => match attachment_of(job, tables, *group, *member) {
+        } => match job.attachment_of(*group, *member) {
             Some(first) => first == array.as_slice(),
             None => true,
         },

@@ -1,13 +1,13 @@
 ghost use Rattle.std.specs.Prelude.{◌≡◌, ◌∷◌, [], IfOk, OnOk};
 ghost use Rattle.std.specs.Option.{option_copied};
-ghost use Rattle.fx_check.specs.Facts.{GrewAttached, GrewCreated, AreTables, attached_by, attached_in, created_by, created_in, first_attached, first_created, is_eighth};
+ghost use Rattle.fx_check.specs.Facts.{GrewAttached, GrewCreated, attached_by, attached_in, created_by, created_in, first_attached, first_created, is_one_of_eight};
 
+use crate::limits::LAST_OF_EIGHT;
+use crate::lookup::{attached_in, created_in};
 use fx_base::{Bytes, NoMemory, Seq};
-use fx_script::Stmt;
+use fx_script::{Callback, Decl, Job, Stmt};
 use std::alloc::Global;
-
-/// The greatest number of a group, and of a member.
-const LAST_EIGHTH: i64 = 7;
+use std::marker::Model;
 
 /// A group that a statement creates, with its start stamp and its depth.
 #[derive(Clone, Copy, Debug, PartialEq, Eq)]
@@ -25,31 +25,88 @@ pub struct Attached {
     pub array: Bytes,
 }
 
-/// The first creation of each of the eight groups, and the first attachment of each of their eight members.
-#[derive(Debug, Drop)]
-pub struct Tables {
-    pub created: Seq<Created>,
-    pub attached: Seq<Attached>,
+/// A job, with the first creation of each of the eight groups and the first attachment of each of
+/// their eight members, so that a look-up of one of them doesn't go through the body. It is seen as
+/// the job.
+#[derive(Drop)]
+pub struct IndexedJob<'a> {
+    job: &'a Job,
+    created: Seq<Created>,
+    attached: Seq<Attached>,
 }
 
-impl Tables {
-    /// What the statements of a body create and attach.
-    pub fn of_body(alloc: Global, body: &[Stmt]) -> Result<Tables, NoMemory>
-        ensures { IfOk result (λ tables. AreTables tables body.now) }
+impl<'a> Model for IndexedJob<'a> {
+    ghost use Rattle.fx_script.specs.contracts.job.Job as the_job;
+    ghost use Rattle.fx_script.specs.declared.job.Job.{Job};
+    ghost use Rattle.fx_check.specs.Facts.{AreTables};
+
+    ghost Value = { Job };
+
+    ghost coded = { the_job.the_row.coded };
+
+    ghost view = { λ i. i.job.now };
+
+    ghost invariant = { λ i. AreTables i.created i.attached i.job.now.body };
+}
+
+impl<'a> IndexedJob<'a> {
+    /// Goes once through the body for what it creates and attaches.
+    pub fn new(alloc: Global, job: &'a Job) -> Result<IndexedJob<'a>, NoMemory>
+        ensures { IfOk result (λ indexed. indexed ≡ job.now) }
     {
         let mut created = Seq::new(alloc);
-        gather_created(&mut created, body)?;
+        gather_created(&mut created, job.body.as_slice())?;
         let mut attached = Seq::new(alloc);
-        gather_attached(&mut attached, body)?;
-        Ok(Tables { created, attached })
+        gather_attached(&mut attached, job.body.as_slice())?;
+        Ok(IndexedJob {
+            job,
+            created,
+            attached,
+        })
+    }
+
+    /// The arrays and counters.
+    pub fn names(&self) -> &[Decl]
+        ensures { result.now ≡ self.now.names }
+    {
+        self.job.names.as_slice()
+    }
+
+    /// The callbacks.
+    pub fn callbacks(&self) -> &[Callback]
+        ensures { result.now ≡ self.now.callbacks }
+    {
+        self.job.callbacks.as_slice()
+    }
+
+    /// The first creation of a group in the body. Groups other than the eight aren't in the table.
+    pub fn creation_of(&self, group: i64) -> Option<Created>
+        ensures { result ≡ first_created (created_in self.now.body) group }
+    {
+        if is_one_of_eight(group) {
+            first_created(self.created.as_slice(), group)
+        } else {
+            created_in(self.job.body.as_slice(), &group)
+        }
+    }
+
+    /// The array that is attached first to a member of a group in the body.
+    pub fn attachment_of(&self, group: i64, member: i64) -> Option<&[u8]>
+        ensures { option_copied result ≡ first_attached (attached_in self.now.body) group member }
+    {
+        if is_one_of_eight(group) && is_one_of_eight(member) {
+            first_attached(self.attached.as_slice(), group, member)
+        } else {
+            attached_in(self.job.body.as_slice(), &group, &member)
+        }
     }
 }
 
 /// Whether a number is that of a group or of a member.
-pub fn is_eighth(number: i64) -> bool
-    ensures { result ≡ is_eighth number }
+pub fn is_one_of_eight(number: i64) -> bool
+    ensures { result ≡ is_one_of_eight number }
 {
-    0 <= number && number <= LAST_EIGHTH
+    0 <= number && number <= LAST_OF_EIGHT
 }
 
 // ---- groups
@@ -101,7 +158,7 @@ fn gather_created_by(created: &mut Seq<Created>, statement: &Stmt) -> Result<(),
 fn add_created(created: &mut Seq<Created>, more: Created) -> Result<(), NoMemory>
     ensures { OnOk result (GrewCreated created.old created.new (more ∷ [])) }
 {
-    if is_eighth(more.group) && first_created(created.as_slice(), more.group).is_none() {
+    if is_one_of_eight(more.group) && first_created(created.as_slice(), more.group).is_none() {
         created.push(more)?;
     }
     Ok(())
@@ -160,8 +217,8 @@ fn add_attached(
 ) -> Result<(), NoMemory>
     ensures { OnOk result (GrewAttached attached.old attached.new (record { group = group; member = member; array = array.now } ∷ [])) }
 {
-    if is_eighth(group)
-        && is_eighth(member)
+    if is_one_of_eight(group)
+        && is_one_of_eight(member)
         && first_attached(attached.as_slice(), group, member).is_none()
     {
         attached.push(Attached {

@@ -11,7 +11,8 @@ use Rattle.fx_script.specs.declared.job.Stmt.TheOpen.{Stmt-F}
 use Rattle.fx_script.specs.declared.job.Stmt.TheFolds.{fold-roll-Stmt}
 use Rattle.fx_check.specs.Acceptance.{Line, IsAccepted, stmt_line, stmt_lines_level, stmt_lines, stmts_lines, head_lines, decl_lines, callbacks_lines, event_lines}
 use Rattle.fx_check.specs.Facts.{Facts, facts_of, is_array, is_counter, is_value}
-use Rattle.fx_check.specs.declared.place.Place.{Place}
+use Rattle.fx_check.specs.declared.surroundings.Surroundings.{Surroundings}
+use Rattle.fx_check.proofs.Accepting.{lines_known}
 use Rattle.fx_check.specs.Rules.{body_place, procs_of}
 use Rattle.fx_cli.specs.Built.{Mark, first_in, head_marks, decl_mark, callback_mark, is_print, stmt_mark, event_mark, first_unbuilt, printed_by, printed_in}
 
@@ -50,14 +51,14 @@ only_first true b e is = refl
 only_first false b e is = absurd cc
 
 -- the one line of a print
-print_lines : (f : Facts) (p : Place) (spot : Spot) (name : List ℕ) →
-    stmt_lines f (stmt.Print spot name) p ≡ stmt_line {X = Place → List Line} f p (Stmt-F.Print spot name) ∷ []
+print_lines : (f : Facts) (p : Surroundings) (spot : Spot) (name : List ℕ) →
+    stmt_lines f (stmt.Print spot name) p ≡ stmt_line {X = Surroundings → List Line} f p (Stmt-F.Print spot name) ∷ []
 print_lines f p spot name =
-    ap (λ (lines : Place → List Line). lines p)
-    (ap (stmt_lines f) (sym (stmt.rolls-Print spot name)) ∙ fold-roll-Stmt (Place → List Line) (stmt_lines_level f) (Stmt-F.Print spot name))
+    ap (λ (lines : Surroundings → List Line). lines p)
+    (ap (stmt_lines f) (sym (stmt.rolls-Print spot name)) ∙ fold-roll-Stmt (Surroundings → List Line) (stmt_lines_level f) (Stmt-F.Print spot name))
 
 -- what a print prints is declared
-printed_known : (f : Facts) (p : Place) (s : Stmt) → is_print s ≡ true → AllByRecursion IsKnown (stmt_lines f s p) →
+printed_known : (f : Facts) (p : Surroundings) (s : Stmt) → is_print s ≡ true → AllByRecursion IsKnown (stmt_lines f s p) →
     AllByRecursion (λ name. is_value f name ≡ true) (printed_by s)
 printed_known f p (stmt.Print spot name) is known =
     ((subst (λ (ls : List Line). AllByRecursion IsKnown ls) (print_lines f p spot name) known).0, tt)
@@ -67,7 +68,7 @@ all_of : (P : List ℕ → Type 0) (a b : List (List ℕ)) → AllByRecursion P 
 all_of P [] b p q = q
 all_of P (x ∷ a) b p q = (p.0, all_of P a b p.1 q)
 
-all_known : (f : Facts) (p : Place) (ss : List Stmt) → AllByRecursion IsKnown (stmts_lines f ss p) → first_in (map stmt_mark ss) ≡ None →
+all_known : (f : Facts) (p : Surroundings) (ss : List Stmt) → AllByRecursion IsKnown (stmts_lines f ss p) → first_in (map stmt_mark ss) ≡ None →
     AllByRecursion (λ name. is_value f name ≡ true) (printed_in ss)
 all_known f p [] known built = tt
 all_known f p (s ∷ ss) known built =
@@ -91,7 +92,7 @@ prints_arrays job accepted built =
     let called = callbacks_lines f [] job.callbacks in
     let body = stmts_lines f job.body body_place in
     let scheduled = event_lines (procs_of job) 0 job.events in
-    let behind_decls = back decls (called ++ (body ++ scheduled)) (back heads (decls ++ (called ++ (body ++ scheduled))) accepted.known) in
+    let behind_decls = back decls (called ++ (body ++ scheduled)) (back heads (decls ++ (called ++ (body ++ scheduled))) (lines_known job accepted)) in
     let known = front body scheduled (back called (body ++ scheduled) behind_decls) in
     let events = map event_mark job.events in
     let prints = map stmt_mark job.body in

@@ -1,7 +1,8 @@
-use Rattle.std.proofs.Common.{◌+◌, ◌++◌, Option, Result, Ok, drop, sym, ap, subst, ◌∙◌}
+use Rattle.std.proofs.Common.{rules, arith, ◌+◌, ◌++◌, Option, Result, Ok, drop, sym, ap, subst, ◌∙◌}
 use Rattle.std.proofs.lemmas.Result.{err_from_is_err_and}
+use Rattle.fx_script.specs.declared.job.Stmt.TheViews.{the_lemmas}
 use Rattle.fx_check.specs.declared.fault.CheckJob.{CheckJob}
-use Rattle.fx_check.specs.Acceptance.{Refused, Refuses, first_refused, line_of, stmt_lines, stmts_lines}
+use Rattle.fx_check.specs.Acceptance.{Refused, Tells, first_refused, line_of, stmt_lines, stmts_lines}
 use Rattle.fx_check.specs.Facts.{facts_of, or_first}
 use Rattle.fx_check.specs.Rules.{inside_when, inside_if, inside_for}
 use Rattle.fx_check.proofs.Walks.{refused_append, answers_on, answers_stop, answers_behind, refuses_behind, when_lines, if_lines, if_alone_lines, if_begins, for_lines, if_room, for_room, lines_from}
@@ -63,7 +64,7 @@ check_stmts-returns-in_err-check_stmt t c =
     let e = c.in_err-check_stmt.field-0.0 in
     let p = err_from_is_err_and c.from_residual.result c.from_residual.ensures.1 in
     let stops = answers_stop e (stmt_lines f c.statement-item.result c.args.place) (stmts_lines f (drop (c.loop-statement.statement-index + 1) c.args.body.now) c.args.place) c.in_err-check_stmt.ensures in
-    rw (p.1, p.2) (subst (λ (o : Option Refused). Refuses e o) (ap first_refused (sym from) ∙ c.loop-statement.invariant) stops)
+    rw (p.1, p.2) (subst (λ (o : Option Refused). Tells e o) (ap first_refused (sym from) ∙ c.loop-statement.invariant) stops)
 
 pub check_stmts-loop-statement-preserved : goal.check_stmts-loop-statement-preserved
 check_stmts-loop-statement-preserved t c =
@@ -86,3 +87,11 @@ pub check_stmt-inside_for-requires-clause-loops : goal.check_stmt-inside_for-req
 check_stmt-inside_for-requires-clause-loops t c =
     let b = c.in-Loop in
     (for_room (facts_of c.args.job.now) c.args.place c.args.statement.now b.spot b.counter b.first b.last b.body b.is (sym c.in_ok-fault.ensures ∙ c.in_default.is)).1
+
+pub check_stmt-check_stmts-requires-in-Branch : goal.check_stmt-check_stmts-requires-in-Branch
+check_stmt-check_stmts-requires-in-Branch t c =
+    (first_of (search (rules, the_lemmas), search (rules, the_lemmas) depth 16 fits 4000, grind (arith, the_lemmas)), (c.inside_if.ensures.blocks, c.inside_if.ensures.loops))
+
+pub check_stmt-check_stmts-requires-in-Some-no : goal.check_stmt-check_stmts-requires-in-Some-no
+check_stmt-check_stmts-requires-in-Some-no t c =
+    (first_of (search (rules, the_lemmas), search (rules, the_lemmas) depth 16 fits 4000, grind (arith, the_lemmas)), (c.inside_if-in-Some-no.ensures.blocks, c.inside_if-in-Some-no.ensures.loops))

@@ -3,7 +3,7 @@ ghost use Rattle.fx_check.specs.Rules.{body_place, callback_place, inside_for, i
 
 /// Where a statement stands.
 #[derive(Clone, Copy, Debug, PartialEq, Eq)]
-pub struct Place {
+pub struct Surroundings {
     /// In a callback, else in the body.
     pub in_callback: bool,
     /// How many statements of the callback stand before it.
@@ -16,12 +16,12 @@ pub struct Place {
     pub loops: u32,
 }
 
-impl Place {
+impl Surroundings {
     /// The body.
-    pub(crate) fn body() -> Place
+    pub(crate) fn body() -> Surroundings
         ensures { result ≡ body_place }
     {
-        Place {
+        Surroundings {
             in_callback: false,
             before: 0,
             in_when: false,
@@ -31,25 +31,25 @@ impl Place {
     }
 
     /// A callback, behind so many of its statements.
-    pub(crate) fn callback(before: u64) -> Place
+    pub(crate) fn callback(before: u64) -> Surroundings
         ensures { result ≡ callback_place before }
     {
-        Place {
+        Surroundings {
             in_callback: true,
             before,
-            ..Place::body()
+            ..Surroundings::body()
         }
     }
 
     /// Inside a `when` that stands here.
-    pub(crate) fn inside_when(self) -> Place
+    pub(crate) fn inside_when(self) -> Surroundings
         requires blocks { self.blocks < 8 }
         requires loops { self.loops ≤ 4 }
         ensures same { result ≡ inside_when self }
         ensures blocks { result.blocks ≤ 8 }
         ensures loops { result.loops ≤ 4 }
     {
-        Place {
+        Surroundings {
             in_when: true,
             blocks: self.blocks + 1,
             ..self
@@ -57,28 +57,28 @@ impl Place {
     }
 
     /// Inside an `if` that stands here.
-    pub(crate) fn inside_if(self) -> Place
+    pub(crate) fn inside_if(self) -> Surroundings
         requires blocks { self.blocks < 8 }
         requires loops { self.loops ≤ 4 }
         ensures same { result ≡ inside_if self }
         ensures blocks { result.blocks ≤ 8 }
         ensures loops { result.loops ≤ 4 }
     {
-        Place {
+        Surroundings {
             blocks: self.blocks + 1,
             ..self
         }
     }
 
     /// Inside a `for` that stands here.
-    pub(crate) fn inside_for(self) -> Place
+    pub(crate) fn inside_for(self) -> Surroundings
         requires blocks { self.blocks < 8 }
         requires loops { self.loops < 4 }
         ensures same { result ≡ inside_for self }
         ensures blocks { result.blocks ≤ 8 }
         ensures loops { result.loops ≤ 4 }
     {
-        Place {
+        Surroundings {
             blocks: self.blocks + 1,
             loops: self.loops + 1,
             ..self
