@@ -55,7 +55,7 @@ accepted_done : (source source' : SourceState) (sink sink' : SinkState) (asked :
 accepted_done source source' sink sink' mode.Run job taken done gained =
     (job, taken, run_done sink sink' job (first_unbuilt job) refl done gained)
 accepted_done source source' sink sink' mode.Check job taken done gained =
-    (job, taken, record { alone = canonical_alone job (taken.text, job, taken.spelled, refl); gained = gained })
+    (job, taken, record { alone = canonical_alone job record { text = taken.text; told = job; spelled = taken.spelled; same = refl }; gained = gained })
 
 job_done : (source source' : SourceState) (sink sink' : SinkState) (asked : Mode) (text : List ℕ) (job : Job) (o : Option Refused) →
     job_in text ≡ Ok job → refusal_of job ≡ o → length text ≤ longest_job → Loses source.left source'.left text → IsAtEnd source'.left →
@@ -237,7 +237,7 @@ is_ran words source source' sink sink' NoMemory e job given built = tt
 pub is_printed : (words : List (List ℕ)) (source source' : SourceState) (sink sink' : SinkState) (s : Status) → Ends words source source' sink sink' s →
     (job : Job) → IsGiven mode.Check words source job → IsDoneUnlessCut (IsCheck job sink sink') s
 is_printed words source source' sink sink' Done e job given = record {
-  alone = canonical_alone job (given.text, job, given.spelled, refl);
+  alone = canonical_alone job record { text = given.text; told = job; spelled = given.spelled; same = refl };
   gained = subst (λ (d : Due). Gains sink.written sink'.written d.output) (given_is mode.Check words source source' job given e.0 e.1) e.3;
 }
 is_printed words source source' sink sink' BadWords e job given =

@@ -1,4 +1,5 @@
 use fx_base::{Copied, NoMemory, Proc, Seq};
+use std::alloc::Global;
 
 /// What one member says in a ballot: its vote, or what the others put in its place.
 #[derive(Clone, Copy, Debug, PartialEq, Eq)]
@@ -37,6 +38,12 @@ pub enum Slot {
 impl Copied for Slot {
     fn copied(&self) -> Result<Self, NoMemory> {
         Ok(*self)
+    }
+
+    fn copied_all(alloc: Global, items: &[Slot]) -> Result<Vec<Slot>, NoMemory> {
+        let mut copies = Vec::new(alloc);
+        copies.extend_from_slice(items)?;
+        Ok(copies)
     }
 }
 
