@@ -18,7 +18,6 @@ use Rattle.fx_cli.specs.declared.status.Status.TheVariants.{Done, BadWords, BadJ
 use Rattle.fx_cli.specs.Built.{first_unbuilt, plan_of}
 use Rattle.fx_cli.specs.Dues.{longest_job, mode_of, Input, WrongWords, TooLong, Whole, IsInput, Due, input_in, input_of, due_to, due_to_reading, due_to_job, due_to_accepted, due_to_run}
 use Rattle.fx_cli.specs.Ends.{Settles, Ends, Takes, IsRun, IsCheck, DoesWhatIsAsked, IsUnbuilt, IsGiven, IsUnlessCut, IsDoneUnlessCut}
-use Rattle.fx_cli.specs.Plan.{journal_of}
 use Rattle.fx_cli.proofs.LegalJournal.{is_legal}
 
 -- what came in, and what is due to it, written whole or in part

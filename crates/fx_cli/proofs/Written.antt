@@ -1,6 +1,5 @@
 -- What is written, and the status of the call.
-use Rattle.std.proofs.Common.{◌≡◌, ℕ, ◌≤◌, List, [], ◌++◌, Option, Some, None, Result, Ok, Err, refl, sym, subst, ◌∙◌, append_assoc, inl, inr, arith}
-use Rattle.std.proofs.lemmas.List.{append-nil}
+use Rattle.std.proofs.Common.{◌≡◌, ℕ, List, Option, Some, None, Result, Ok, Err, refl, sym, subst}
 use Rattle.fx_io.specs.States.{SinkState}
 use Rattle.fx_io.specs.Writing.{Puts}
 use Rattle.fx_io.specs.declared.whole.PutEnd.{PutEnd}

@@ -3,7 +3,7 @@ use Rattle.std.proofs.lemmas.Result.{err_from_is_err_and}
 use Rattle.fx_io.proofs.Written.{SoFar, begins, goes_on, is_cut, ends_with}
 use Rattle.fx_cli.specs.Built.{plan_of}
 use Rattle.fx_cli.specs.Items.{text_of}
-use Rattle.fx_cli.specs.Plan.{closing, journal_of, opening, print_of}
+use Rattle.fx_cli.specs.Plan.{closing, journal_of, print_of}
 use Rattle.fx_cli.proofs.Texts.{journal_text}
 use Rattle.fx_cli.proofs.run.write_journal.Goals as goal
 
