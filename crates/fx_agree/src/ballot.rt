@@ -66,13 +66,14 @@ impl Ballot {
     }
 
     /// The estimate of round `round`, below the number of members, came, with one slot for each member. A second one of this
-    /// round changes nothing. Fails only without memory, and then every later call that can fail does.
+    /// round is answered with Ok and changes nothing. Fails only without memory, and then every later call that can fail does.
     pub fn on_estimate(&mut self, round: u8, slots: &Slots) -> Result<(), NoMemory>
         requires below { round < self.old.members }
         requires whole { length slots.now ≡ self.old.members }
         ensures has_heard { OnOk result (self.new ≡ hears_seat round (Estimate round slots.now) self.old) }
         ensures has_heard_in_the_world { OnOk result (InWorld self.old self.new (λ name. after (name round) (Estimate round slots.now))) }
         ensures no_memory { OnErr result (self.new ≡ spent self.old) }
+        ensures second_needs_no_memory { OnErr result (self.old.failed ≡ false → (at_seat self.old.heard round).estimate ≡ None) }
         ensures stays_failed { self.old.failed ≡ true → IsErr result }
         ensures keeps_its_members { self.new.members ≡ self.old.members }
     {
