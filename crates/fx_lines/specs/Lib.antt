@@ -1,0 +1,11 @@
+pub mod Forms
+pub mod Names
+pub mod Choices
+pub mod Hex
+pub mod Slots
+pub mod Fields
+pub mod Lists
+pub mod Messages
+pub mod Items
+pub mod Rows
+pub mod RefusedRows

@@ -1,0 +1,6 @@
+//! Which line each item of a journal has, and which item a line tells. Definitions and laws, no code.
+#![tactic(auto)]
+
+mod fault;
+
+pub use fault::ItemFault;
