@@ -1,0 +1,21 @@
+//! What follows from the table of lines. The functions do nothing: their contracts are theorems.
+ghost use Rattle.std.specs.Prelude.{◌≡◌, ℕ, List, Ok, true};
+ghost use Rattle.fx_item.specs.declared.item.Item.{Item};
+ghost use Rattle.fx_lines.specs.Items.{line_of, item_in, is_writable, is_in_type};
+
+/// An item whose fields have their forms is read back from its line.
+pub fn what_is_printed_is_read_back()
+    ensures { (item : Item) → is_writable item ≡ true → is_in_type item ≡ true → item_in (line_of item) ≡ Ok item }
+{}
+
+/// A line that tells an item is that item's line, byte for byte, and the item's fields have their forms.
+pub fn what_is_read_is_printed_the_same()
+    ensures line { (line : List ℕ) (item : Item) → item_in line ≡ Ok item → line_of item ≡ line }
+    ensures writable { (line : List ℕ) (item : Item) → item_in line ≡ Ok item → is_writable item ≡ true }
+    ensures in_type { (line : List ℕ) (item : Item) → item_in line ≡ Ok item → is_in_type item ≡ true }
+{}
+
+/// Two items never have the same line.
+pub fn no_two_items_have_one_line()
+    ensures { (a b : Item) → is_writable a ≡ true → is_in_type a ≡ true → is_writable b ≡ true → is_in_type b ≡ true → line_of a ≡ line_of b → a ≡ b }
+{}
