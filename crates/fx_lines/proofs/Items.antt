@@ -13,11 +13,11 @@ use Rattle.fx_lines.proofs.Rows.{IsSoundTable, tail_sound, fields_sound, one_fie
 use Rattle.fx_lines.proofs.Separated.{no_space, pieces_again}
 use Rattle.fx_lines.proofs.Sound.{IsSoundForm}
 
-ending_sound : (e : Ending) → IsSoundForm (ending e)
+pub ending_sound : (e : Ending) → IsSoundForm (ending e)
 ending_sound (Plain t) = tail_sound t
 ending_sound AMessage = one_field_sound (tabled messages) (tabled_sound messages messages_sound)
 
-named : (kind : Kind) → kind_named items (item_row kind).word ≡ Some kind
+pub named : (kind : Kind) → kind_named items (item_row kind).word ≡ Some kind
 named Kill = refl
 named Join = refl
 named Repaired = refl
@@ -141,7 +141,7 @@ plain Send = refl
 plain Deliver = refl
 plain Told = refl
 
-items_sound : IsSoundTable items
+pub items_sound : IsSoundTable items
 items_sound = record {
   named = named;
   same = same;

@@ -7,3 +7,4 @@ pub mod Shapes
 pub mod Rows
 pub mod Messages
 pub mod Items
+pub mod Refusals

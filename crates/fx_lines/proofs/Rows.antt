@@ -192,7 +192,7 @@ always [] = refl
 always (x ∷ xs) = always xs
 
 module _ {K X : Type 0} (table : Table K X) (known : IsSoundTable table) where
-  kind_word : (word : List ℕ) (kind : K) → kind_named table word ≡ Some kind → table.word kind ≡ word
+  pub kind_word : (word : List ℕ) (kind : K) → kind_named table word ≡ Some kind → table.word kind ≡ word
   kind_word word kind e =
       let p = found_passes (λ k. bytes_eq (table.word k) word) (λ k. true) table.kinds kind (always table.kinds) e in
       (bytes_eq-Decides (table.word kind) word).0 p.0

@@ -7,5 +7,6 @@ pub mod Fields
 pub mod Lists
 pub mod Messages
 pub mod Items
+pub mod Refusals
 pub mod Rows
 pub mod RefusedRows

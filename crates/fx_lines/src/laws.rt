@@ -1,7 +1,9 @@
 //! What follows from the table of lines. The functions do nothing: their contracts are theorems.
-ghost use Rattle.std.specs.Prelude.{◌≡◌, ℕ, List, Ok, true};
+ghost use Rattle.std.specs.Prelude.{◌≡◌, ℕ, List, Ok, Err, true};
 ghost use Rattle.fx_item.specs.declared.item.Item.{Item};
+ghost use Rattle.fx_lines.specs.declared.fault.ItemFault.{ItemFault};
 ghost use Rattle.fx_lines.specs.Items.{line_of, item_in, is_writable, is_in_type};
+ghost use Rattle.fx_lines.specs.Refusals.{IsRefused};
 
 /// An item whose fields have their forms is read back from its line.
 pub fn what_is_printed_is_read_back()
@@ -18,4 +20,11 @@ pub fn what_is_read_is_printed_the_same()
 /// Two items never have the same line.
 pub fn no_two_items_have_one_line()
     ensures { (a b : Item) → is_writable a ≡ true → is_in_type a ≡ true → is_writable b ≡ true → is_in_type b ≡ true → line_of a ≡ line_of b → a ≡ b }
+{}
+
+/// A line that is refused is no item's, and its fault is that of its first word, or else of the first field from the left
+/// that is missing or wrong, or else that words follow the last field.
+pub fn a_line_is_refused_for_its_first_fault()
+    ensures no_item { (line : List ℕ) (fault : ItemFault) → item_in line ≡ Err fault → (item : Item) → is_writable item ≡ true → is_in_type item ≡ true → line_of item ≡ line → ⊥ }
+    ensures first { (line : List ℕ) (fault : ItemFault) → item_in line ≡ Err fault → IsRefused line fault }
 {}

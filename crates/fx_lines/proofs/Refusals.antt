@@ -1,0 +1,163 @@
+-- A line is refused with its first fault from the left.
+use Rattle.std.proofs.Common.{◌≡◌, ℕ, ◌+◌, ◌⊎◌, true, List, [], ◌∷◌, refl, sym, ap, ◌∙◌, inl, inr}
+use Rattle.std.specs.Prelude.{Option, Some, None, Result, Ok, Err}
+use Rattle.fx_item.specs.declared.item.Item.{Item}
+use Rattle.fx_lines.specs.declared.fault.ItemFault.{ItemFault}
+use Rattle.fx_lines.specs.declared.fault.ItemFault.TheVariants.{NoSuchKind, BadField, TrailingText}
+use Rattle.fx_lines.specs.Fields.{Shape, Said, fields, word_form}
+use Rattle.fx_lines.specs.Forms.{Form, read_nothing, or_bad_field, and_then, one_field, read_kind, read_tabled, made, kind_named, tabled, pieces}
+use Rattle.fx_lines.specs.Items.{Ending, Plain, AMessage, ending, Kind, item_row, items, line_of, item_in, is_writable, is_in_type}
+use Rattle.fx_lines.specs.Lists.{Nothing, Seats, Numbers, Stamps, Elements, Shares}
+use Rattle.fx_lines.specs.Messages.{messages}
+use Rattle.fx_lines.specs.Refusals.{IsWordOf, AreWordsOf, FieldsStand, IsFirstWrong, AreRefused, IsRefused}
+use Rattle.fx_lines.proofs.Items.{ending_sound, named, items_sound, read_again}
+use Rattle.fx_lines.proofs.Rows.{kind_word}
+use Rattle.fx_lines.proofs.Shapes.{word_sound}
+use Rattle.fx_lines.proofs.Sound.{IsSoundForm}
+
+-- ---- words and fields
+
+-- a word from which nothing is read is no value's
+unread : (shape : Shape) (word : List ℕ) → (word_form shape).read word ≡ None → IsWordOf shape word → ⊥
+unread shape word e w =
+    let some : Some w.0 ≡ None = sym ((word_sound shape).again w.0 w.1 w.2) ∙ ap (word_form shape).read w.3 ∙ e in
+    absurd cc
+
+-- what is read from a word has the word
+was_read : (shape : Shape) (word : List ℕ) (v : Said shape) → (word_form shape).read word ≡ Some v → IsWordOf shape word
+was_read shape word v e = let b = (word_sound shape).back word v e in (v, b.1, b.2, b.0)
+
+-- words from which nothing is read are no value's
+none_has : {A : Type 0} (form : Form A) → IsSoundForm form → (k : ℕ) (words : List (List ℕ)) (fault : ItemFault) → form.read k words ≡ Err fault → AreWordsOf form words → ⊥
+none_has {A} form sound k words fault e w =
+    let right : ◌≡◌ {A = Result A ItemFault} (Ok w.0) (Err fault) = sym (sound.again w.0 w.1 w.2 k) ∙ ap (form.read k) w.3 ∙ e in
+    absurd cc
+
+-- ---- the ends
+
+-- a fault of what ends a row: a field of its own is wrong, or nothing was to follow
+abbrev EndFault : Ending → ℕ → List (List ℕ) → ItemFault → Type 0
+EndFault end k words fault = (fault ≡ BadField k) ⊎ ((word : List ℕ) × (more : List (List ℕ)) × (fault ≡ TrailingText) × (end ≡ Plain Nothing) × (words ≡ word ∷ more))
+
+bad_fault : {A : Type 0} (k : ℕ) (o : Option A) (fault : ItemFault) → or_bad_field k o ≡ Err fault → fault ≡ BadField k
+bad_fault k (Some a) fault e = absurd cc
+bad_fault k None fault e = cc
+
+one_fault : {A : Type 0} (k : ℕ) (r : Result A ItemFault) (fault : ItemFault) → one_field k r ≡ Err fault → fault ≡ BadField k
+one_fault k (Ok a) fault e = absurd cc
+one_fault k (Err other) fault e = cc
+
+nothing_fault : (k : ℕ) (words : List (List ℕ)) (fault : ItemFault) → read_nothing k words ≡ Err fault → EndFault (Plain Nothing) k words fault
+nothing_fault k [] fault e = absurd cc
+nothing_fault k (word ∷ more) fault e = inr (word, more, cc, refl, refl)
+
+end_fault : (end : Ending) (k : ℕ) (words : List (List ℕ)) (fault : ItemFault) → (ending end).read k words ≡ Err fault → EndFault end k words fault
+end_fault (Plain Nothing) k words fault e = nothing_fault k words fault e
+end_fault (Plain Seats) k words fault e = inl (bad_fault k _ fault e)
+end_fault (Plain Numbers) k words fault e = inl (bad_fault k _ fault e)
+end_fault (Plain Stamps) k words fault e = inl (bad_fault k _ fault e)
+end_fault (Plain Elements) k words fault e = inl (bad_fault k _ fault e)
+end_fault (Plain Shares) k words fault e = inl (bad_fault k _ fault e)
+end_fault AMessage k words fault e = inl (one_fault k ((tabled messages).read 0 words) fault e)
+
+-- ---- rows
+
+-- either this field is wrong, or what follows it is
+after_field : {A B : Type 0} (k : ℕ) (o : Option A) (rest : Result B ItemFault) (fault : ItemFault) → and_then k o rest ≡ Err fault
+    → ((o ≡ None) × (fault ≡ BadField k)) ⊎ ((a : A) × (o ≡ Some a) × (rest ≡ Err fault))
+after_field k None rest fault e = inl (refl, cc)
+after_field k (Some a) (Ok b) fault e = absurd cc
+after_field k (Some a) (Err other) fault e = inr (a, refl, cc)
+
+first_wrong : (shapes : List Shape) (end : Ending) (k : ℕ) (words : List (List ℕ)) (wrong : ℕ) → (fields shapes (ending end)).read k words ≡ Err (BadField wrong)
+    → IsFirstWrong shapes end k words wrong
+first_wrong [] end k words wrong e = (
+  elim (end_fault end k words (BadField wrong) e) [
+    | inl same ↦ cc
+    | inr over ↦ let no : BadField wrong ≡ TrailingText = over.2 in absurd cc
+  ],
+  none_has (ending end) (ending_sound end) k words (BadField wrong) e,
+)
+first_wrong (shape ∷ shapes) end k [] wrong e = cc
+first_wrong (shape ∷ shapes) end k (word ∷ words) wrong e =
+    elim (after_field k ((word_form shape).read word) ((fields shapes (ending end)).read (k + 1) words) (BadField wrong) e) [
+      | inl here ↦ let same : BadField wrong ≡ BadField k = here.1 in inl (cc, unread shape word here.0)
+      | inr later ↦ inr (was_read shape word later.0 later.1, first_wrong shapes end (k + 1) words wrong later.2)
+    ]
+
+all_stand : (shapes : List Shape) (end : Ending) (k : ℕ) (words : List (List ℕ)) → (fields shapes (ending end)).read k words ≡ Err TrailingText
+    → (word : List ℕ) × (more : List (List ℕ)) × (end ≡ Plain Nothing) × FieldsStand shapes words (word ∷ more)
+all_stand [] end k words e = elim (end_fault end k words TrailingText e) [
+  | inl wrong ↦ absurd cc
+  | inr over ↦ (over.0, over.1, over.3, over.4)
+]
+all_stand (shape ∷ shapes) end k [] e = absurd cc
+all_stand (shape ∷ shapes) end k (word ∷ words) e =
+    elim (after_field k ((word_form shape).read word) ((fields shapes (ending end)).read (k + 1) words) TrailingText e) [
+      | inl here ↦ let no : TrailingText ≡ BadField k = here.1 in absurd cc
+      | inr later ↦
+          let rest = all_stand shapes end (k + 1) words later.2 in
+          (rest.0, rest.1, rest.2, (was_read shape word later.0 later.1, rest.3))
+    ]
+
+-- what follows the first word never asks for a kind
+kind_stands : (shapes : List Shape) (end : Ending) (k : ℕ) (words : List (List ℕ)) → (fields shapes (ending end)).read k words ≡ Err NoSuchKind → ⊥
+kind_stands [] end k words e = elim (end_fault end k words NoSuchKind e) [
+  | inl wrong ↦ absurd cc
+  | inr over ↦ let no : NoSuchKind ≡ TrailingText = over.2 in absurd cc
+]
+kind_stands (shape ∷ shapes) end k [] e = absurd cc
+kind_stands (shape ∷ shapes) end k (word ∷ words) e =
+    elim (after_field k ((word_form shape).read word) ((fields shapes (ending end)).read (k + 1) words) NoSuchKind e) [
+      | inl here ↦ let no : NoSuchKind ≡ BadField k = here.1 in absurd cc
+      | inr later ↦ kind_stands shapes end (k + 1) words later.2
+    ]
+
+-- ---- lines
+
+made_fault : {A B : Type 0} (whole : A → B) (r : Result A ItemFault) (fault : ItemFault) → made whole r ≡ Err fault → r ≡ Err fault
+made_fault whole (Ok a) fault e = absurd cc
+made_fault whole (Err other) fault e = cc
+
+-- there is no such kind, or what follows it is wrong
+kind_fault : (o : Option Kind) (words : List (List ℕ)) (fault : ItemFault) → read_kind items 0 o words ≡ Err fault
+    → ((o ≡ None) × (fault ≡ NoSuchKind)) ⊎ ((kind : Kind) × (o ≡ Some kind) × ((items.form kind).read 1 words ≡ Err fault))
+kind_fault None words fault e = inl (refl, cc)
+kind_fault (Some kind) words fault e = inr (kind, refl, made_fault (items.whole kind) ((items.form kind).read 1 words) fault e)
+
+no_kind : (word : List ℕ) (words : List (List ℕ)) → kind_named items word ≡ None → (kind : Kind) (rest : List (List ℕ)) → word ∷ words ≡ (item_row kind).word ∷ rest → ⊥
+no_kind word words none kind rest e =
+    let same : word ≡ (item_row kind).word = cc in
+    let some : Some kind ≡ None = sym (named kind) ∙ ap (kind_named items) (sym same) ∙ none in
+    absurd cc
+
+whole_line : (word : List ℕ) (words : List (List ℕ)) (kind : Kind) → kind_named items word ≡ Some kind → word ∷ words ≡ (item_row kind).word ∷ words
+whole_line word words kind e = ap (λ w. w ∷ words) (sym (kind_word items items_sound word kind e))
+
+refused : (words : List (List ℕ)) (fault : ItemFault) → read_tabled items 0 words ≡ Err fault → AreRefused words fault
+refused [] NoSuchKind e = λ kind rest s. absurd cc
+refused [] (BadField wrong) e = absurd cc
+refused [] TrailingText e = absurd cc
+refused (word ∷ words) NoSuchKind e = elim (kind_fault (kind_named items word) words NoSuchKind e) [
+  | inl none ↦ no_kind word words none.0
+  | inr known ↦ absurd (kind_stands (item_row known.0).shapes (item_row known.0).end 1 words known.2)
+]
+refused (word ∷ words) (BadField wrong) e = elim (kind_fault (kind_named items word) words (BadField wrong) e) [
+  | inl none ↦ let no : BadField wrong ≡ NoSuchKind = none.1 in absurd cc
+  | inr known ↦ (known.0, words, whole_line word words known.0 known.1, first_wrong (item_row known.0).shapes (item_row known.0).end 1 words wrong known.2)
+]
+refused (word ∷ words) TrailingText e = elim (kind_fault (kind_named items word) words TrailingText e) [
+  | inl none ↦ let no : TrailingText ≡ NoSuchKind = none.1 in absurd cc
+  | inr known ↦
+      let s = all_stand (item_row known.0).shapes (item_row known.0).end 1 words known.2 in
+      (known.0, words, s.0, s.1, whole_line word words known.0 known.1, s.2, s.3)
+]
+
+pub refused_so : (line : List ℕ) (fault : ItemFault) → item_in line ≡ Err fault → IsRefused line fault
+refused_so line fault e = refused (pieces 32 line) fault e
+
+-- a line that is refused is no item's
+pub no_item : (line : List ℕ) (fault : ItemFault) → item_in line ≡ Err fault → (i : Item) → is_writable i ≡ true → is_in_type i ≡ true → line_of i ≡ line → ⊥
+no_item line fault e i writable fits same =
+    let right : ◌≡◌ {A = Result Item ItemFault} (Ok i) (Err fault) = sym (read_again i writable fits) ∙ ap item_in same ∙ e in
+    absurd cc
