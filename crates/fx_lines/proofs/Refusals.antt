@@ -6,7 +6,7 @@ use Rattle.fx_lines.specs.declared.fault.ItemFault.{ItemFault}
 use Rattle.fx_lines.specs.declared.fault.ItemFault.TheVariants.{NoSuchKind, BadField, TrailingText}
 use Rattle.fx_lines.specs.Fields.{Shape, Said, fields, word_form}
 use Rattle.fx_lines.specs.Forms.{Form, read_nothing, or_bad_field, and_then, one_field, read_kind, read_tabled, made, kind_named, tabled, pieces}
-use Rattle.fx_lines.specs.Items.{Ending, Plain, AMessage, ending, Kind, item_row, items, line_of, item_in, is_writable, is_in_type}
+use Rattle.fx_lines.specs.Items.{Ending, Plain, AMessage, EndingHeld, ending, Kind, item_row, items, line_of, item_in, is_writable, is_in_type}
 use Rattle.fx_lines.specs.Lists.{Nothing, Seats, Numbers, Stamps, Elements, Shares}
 use Rattle.fx_lines.specs.Messages.{messages}
 use Rattle.fx_lines.specs.Refusals.{IsWordOf, AreWordsOf, FieldsStand, IsFirstWrong, AreRefused, IsRefused}
@@ -37,7 +37,7 @@ none_has {A} form sound k words fault e w =
 
 -- a fault of what ends a row: a field of its own is wrong, or nothing was to follow
 abbrev EndFault : Ending → ℕ → List (List ℕ) → ItemFault → Type 0
-EndFault end k words fault = (fault ≡ BadField k) ⊎ ((word : List ℕ) × (more : List (List ℕ)) × (fault ≡ TrailingText) × (end ≡ Plain Nothing) × (words ≡ word ∷ more))
+EndFault end k words fault = ((fault ≡ BadField k) × (end ≡ Plain Nothing → ⊥)) ⊎ ((word : List ℕ) × (more : List (List ℕ)) × (fault ≡ TrailingText) × (end ≡ Plain Nothing) × (words ≡ word ∷ more))
 
 bad_fault : {A : Type 0} (k : ℕ) (o : Option A) (fault : ItemFault) → or_bad_field k o ≡ Err fault → fault ≡ BadField k
 bad_fault k (Some a) fault e = absurd cc
@@ -53,12 +53,12 @@ nothing_fault k (word ∷ more) fault e = inr (word, more, cc, refl, refl)
 
 end_fault : (end : Ending) (k : ℕ) (words : List (List ℕ)) (fault : ItemFault) → (ending end).read k words ≡ Err fault → EndFault end k words fault
 end_fault (Plain Nothing) k words fault e = nothing_fault k words fault e
-end_fault (Plain Seats) k words fault e = inl (bad_fault k _ fault e)
-end_fault (Plain Numbers) k words fault e = inl (bad_fault k _ fault e)
-end_fault (Plain Stamps) k words fault e = inl (bad_fault k _ fault e)
-end_fault (Plain Elements) k words fault e = inl (bad_fault k _ fault e)
-end_fault (Plain Shares) k words fault e = inl (bad_fault k _ fault e)
-end_fault AMessage k words fault e = inl (one_fault k ((tabled messages).read 0 words) fault e)
+end_fault (Plain Seats) k words fault e = inl (bad_fault k _ fault e, λ s. absurd cc)
+end_fault (Plain Numbers) k words fault e = inl (bad_fault k _ fault e, λ s. absurd cc)
+end_fault (Plain Stamps) k words fault e = inl (bad_fault k _ fault e, λ s. absurd cc)
+end_fault (Plain Elements) k words fault e = inl (bad_fault k _ fault e, λ s. absurd cc)
+end_fault (Plain Shares) k words fault e = inl (bad_fault k _ fault e, λ s. absurd cc)
+end_fault AMessage k words fault e = inl (one_fault k ((tabled messages).read 0 words) fault e, λ s. absurd cc)
 
 -- ---- rows
 
@@ -71,13 +71,12 @@ after_field k (Some a) (Err other) fault e = inr (a, refl, cc)
 
 first_wrong : (shapes : List Shape) (end : Ending) (k : ℕ) (words : List (List ℕ)) (wrong : ℕ) → (fields shapes (ending end)).read k words ≡ Err (BadField wrong)
     → IsFirstWrong shapes end k words wrong
-first_wrong [] end k words wrong e = (
-  elim (end_fault end k words (BadField wrong) e) [
-    | inl same ↦ cc
-    | inr over ↦ let no : BadField wrong ≡ TrailingText = over.2 in absurd cc
-  ],
-  none_has (ending end) (ending_sound end) k words (BadField wrong) e,
-)
+first_wrong [] end k words wrong e = elim (end_fault end k words (BadField wrong) e) [
+  | inl here ↦
+      let same : BadField wrong ≡ BadField k = here.0 in
+      (cc, here.1, none_has (ending end) (ending_sound end) k words (BadField wrong) e)
+  | inr over ↦ let no : BadField wrong ≡ TrailingText = over.2 in absurd cc
+]
 first_wrong (shape ∷ shapes) end k [] wrong e = cc
 first_wrong (shape ∷ shapes) end k (word ∷ words) wrong e =
     elim (after_field k ((word_form shape).read word) ((fields shapes (ending end)).read (k + 1) words) (BadField wrong) e) [
@@ -88,7 +87,7 @@ first_wrong (shape ∷ shapes) end k (word ∷ words) wrong e =
 all_stand : (shapes : List Shape) (end : Ending) (k : ℕ) (words : List (List ℕ)) → (fields shapes (ending end)).read k words ≡ Err TrailingText
     → (word : List ℕ) × (more : List (List ℕ)) × (end ≡ Plain Nothing) × FieldsStand shapes words (word ∷ more)
 all_stand [] end k words e = elim (end_fault end k words TrailingText e) [
-  | inl wrong ↦ absurd cc
+  | inl wrong ↦ let no : TrailingText ≡ BadField k = wrong.0 in absurd cc
   | inr over ↦ (over.0, over.1, over.3, over.4)
 ]
 all_stand (shape ∷ shapes) end k [] e = absurd cc
@@ -103,7 +102,7 @@ all_stand (shape ∷ shapes) end k (word ∷ words) e =
 -- what follows the first word never asks for a kind
 kind_stands : (shapes : List Shape) (end : Ending) (k : ℕ) (words : List (List ℕ)) → (fields shapes (ending end)).read k words ≡ Err NoSuchKind → ⊥
 kind_stands [] end k words e = elim (end_fault end k words NoSuchKind e) [
-  | inl wrong ↦ absurd cc
+  | inl wrong ↦ let no : NoSuchKind ≡ BadField k = wrong.0 in absurd cc
   | inr over ↦ let no : NoSuchKind ≡ TrailingText = over.2 in absurd cc
 ]
 kind_stands (shape ∷ shapes) end k [] e = absurd cc
@@ -155,6 +154,70 @@ refused (word ∷ words) TrailingText e = elim (kind_fault (kind_named items wor
 
 pub refused_so : (line : List ℕ) (fault : ItemFault) → item_in line ≡ Err fault → IsRefused line fault
 refused_so line fault e = refused (pieces 32 line) fault e
+
+-- ---- and the other way round
+
+-- a word that no value has is read as nothing
+read_none : (shape : Shape) (word : List ℕ) (o : Option (Said shape)) → (word_form shape).read word ≡ o → (IsWordOf shape word → ⊥) → o ≡ None
+read_none shape word None e none = refl
+read_none shape word (Some v) e none = absurd (none (was_read shape word v e))
+
+-- a value's word is read as the value
+is_read : (shape : Shape) (word : List ℕ) → (w : IsWordOf shape word) → (word_form shape).read word ≡ Some w.0
+is_read shape word w = ap (word_form shape).read (sym w.3) ∙ (word_sound shape).again w.0 w.1 w.2
+
+end_refused : (end : Ending) (k : ℕ) (words : List (List ℕ)) (r : Result (EndingHeld end) ItemFault) → (ending end).read k words ≡ r → (end ≡ Plain Nothing → ⊥) → (AreWordsOf (ending end) words → ⊥)
+    → r ≡ Err (BadField k)
+end_refused end k words (Ok v) e more none = let b = (ending_sound end).back k words v e in absurd (none (v, b.1, b.2, b.0))
+end_refused end k words (Err fault) e more none = elim (end_fault end k words fault e) [
+  | inl here ↦ ap Err here.0
+  | inr over ↦ absurd (more over.3)
+]
+
+wrong_first : (shapes : List Shape) (end : Ending) (k : ℕ) (words : List (List ℕ)) (wrong : ℕ) → IsFirstWrong shapes end k words wrong
+    → (fields shapes (ending end)).read k words ≡ Err (BadField wrong)
+wrong_first [] end k words wrong w = end_refused end k words ((ending end).read k words) refl w.1 w.2 ∙ ap (λ n. Err (BadField n)) (sym w.0)
+wrong_first (shape ∷ shapes) end k [] wrong w = ap (λ n. Err (BadField n)) (sym w)
+wrong_first (shape ∷ shapes) end k (word ∷ words) wrong w = elim w [
+  | inl here ↦
+      ap (λ o. and_then k o ((fields shapes (ending end)).read (k + 1) words)) (read_none shape word ((word_form shape).read word) refl here.1)
+      ∙ ap (λ n. Err (BadField n)) (sym here.0)
+  | inr later ↦ (λ i. and_then k (is_read shape word later.0 i) (wrong_first shapes end (k + 1) words wrong later.1 i))
+]
+
+over_fault : (end : Ending) (k : ℕ) (words : List (List ℕ)) (word : List ℕ) (more : List (List ℕ)) → end ≡ Plain Nothing → words ≡ word ∷ more → (ending end).read k words ≡ Err TrailingText
+over_fault (Plain Nothing) k words word more same s = ap (read_nothing k) s
+over_fault (Plain Seats) k words word more same s = absurd cc
+over_fault (Plain Numbers) k words word more same s = absurd cc
+over_fault (Plain Stamps) k words word more same s = absurd cc
+over_fault (Plain Elements) k words word more same s = absurd cc
+over_fault (Plain Shares) k words word more same s = absurd cc
+over_fault AMessage k words word more same s = absurd cc
+
+stand_all : (shapes : List Shape) (end : Ending) (k : ℕ) (words : List (List ℕ)) (word : List ℕ) (more : List (List ℕ)) → end ≡ Plain Nothing → FieldsStand shapes words (word ∷ more)
+    → (fields shapes (ending end)).read k words ≡ Err TrailingText
+stand_all [] end k words word more same s = over_fault end k words word more same s
+stand_all (shape ∷ shapes) end k [] word more same s = absurd s
+stand_all (shape ∷ shapes) end k (first ∷ words) word more same s =
+    (λ i. and_then k (is_read shape first s.0 i) (stand_all shapes end (k + 1) words word more same s.1 i))
+
+-- a kind's own row, where the first word is the kind's
+row_read : (kind : Kind) (words rest : List (List ℕ)) (fault : ItemFault) → words ≡ (item_row kind).word ∷ rest → (items.form kind).read 1 rest ≡ Err fault → read_tabled items 0 words ≡ Err fault
+row_read kind words rest fault same e =
+    ap (read_tabled items 0) same ∙ ap (λ o. read_kind items 0 o rest) (named kind) ∙ ap (made (items.whole kind)) e
+
+no_kind_read : (words : List (List ℕ)) (o : Option Kind) (word : List ℕ) → kind_named items word ≡ o → ((kind : Kind) (rest : List (List ℕ)) → word ∷ words ≡ (item_row kind).word ∷ rest → ⊥) → read_kind items 0 o words ≡ Err NoSuchKind
+no_kind_read words None word e none = refl
+no_kind_read words (Some kind) word e none = absurd (none kind words (whole_line word words kind e))
+
+refusal : (words : List (List ℕ)) (fault : ItemFault) → AreRefused words fault → read_tabled items 0 words ≡ Err fault
+refusal [] NoSuchKind r = refl
+refusal (word ∷ words) NoSuchKind r = no_kind_read words (kind_named items word) word refl r
+refusal words (BadField wrong) r = row_read r.0 words r.1 (BadField wrong) r.2 (wrong_first (item_row r.0).shapes (item_row r.0).end 1 r.1 wrong r.3)
+refusal words TrailingText r = row_read r.0 words r.1 TrailingText r.4 (stand_all (item_row r.0).shapes (item_row r.0).end 1 r.1 r.2 r.3 r.5 r.6)
+
+pub refused_where : (line : List ℕ) (fault : ItemFault) → IsRefused line fault → item_in line ≡ Err fault
+refused_where line fault r = refusal (pieces 32 line) fault r
 
 -- a line that is refused is no item's
 pub no_item : (line : List ℕ) (fault : ItemFault) → item_in line ≡ Err fault → (i : Item) → is_writable i ≡ true → is_in_type i ≡ true → line_of i ≡ line → ⊥

@@ -22,9 +22,10 @@ FieldsStand [] words rest = words ≡ rest
 FieldsStand (shape ∷ shapes) [] rest = ⊥
 FieldsStand (shape ∷ shapes) (word ∷ words) rest = IsWordOf shape word × FieldsStand shapes words rest
 
--- of the fields from number k on, that of number `wrong` is the first that is missing or wrong
+-- of the fields from number k on, that of number `wrong` is the first that is missing or wrong. A list or a message that
+-- ends the row is a field too
 abbrev pub IsFirstWrong : List Shape → Ending → ℕ → List (List ℕ) → ℕ → Type 0
-IsFirstWrong [] end k words wrong = (wrong ≡ k) × (AreWordsOf (ending end) words → ⊥)
+IsFirstWrong [] end k words wrong = (wrong ≡ k) × (end ≡ Plain Nothing → ⊥) × (AreWordsOf (ending end) words → ⊥)
 IsFirstWrong (shape ∷ shapes) end k [] wrong = wrong ≡ k
 IsFirstWrong (shape ∷ shapes) end k (word ∷ words) wrong =
     ((wrong ≡ k) × (IsWordOf shape word → ⊥)) ⊎ (IsWordOf shape word × IsFirstWrong shapes end (k + 1) words wrong)

@@ -1,5 +1,5 @@
 //! What follows from the table of lines. The functions do nothing: their contracts are theorems.
-ghost use Rattle.std.specs.Prelude.{◌≡◌, ℕ, List, Ok, Err, true};
+ghost use Rattle.std.specs.Prelude.{◌≡◌, ◌↔◌, ℕ, List, Ok, Err, true};
 ghost use Rattle.fx_item.specs.declared.item.Item.{Item};
 ghost use Rattle.fx_lines.specs.declared.fault.ItemFault.{ItemFault};
 ghost use Rattle.fx_lines.specs.Items.{line_of, item_in, is_writable, is_in_type};
@@ -22,9 +22,9 @@ pub fn no_two_items_have_one_line()
     ensures { (a b : Item) → is_writable a ≡ true → is_in_type a ≡ true → is_writable b ≡ true → is_in_type b ≡ true → line_of a ≡ line_of b → a ≡ b }
 {}
 
-/// A line that is refused is no item's, and its fault is that of its first word, or else of the first field from the left
-/// that is missing or wrong, or else that words follow the last field.
+/// A line that is refused is no item's. It is refused exactly for what is first wrong in it from the left: its first word,
+/// or a field that is missing or wrong, or that words follow the last field.
 pub fn a_line_is_refused_for_its_first_fault()
     ensures no_item { (line : List ℕ) (fault : ItemFault) → item_in line ≡ Err fault → (item : Item) → is_writable item ≡ true → is_in_type item ≡ true → line_of item ≡ line → ⊥ }
-    ensures first { (line : List ℕ) (fault : ItemFault) → item_in line ≡ Err fault → IsRefused line fault }
+    ensures first { (line : List ℕ) (fault : ItemFault) → item_in line ≡ Err fault ↔ IsRefused line fault }
 {}
