@@ -8,3 +8,4 @@ pub mod Rows
 pub mod Messages
 pub mod Items
 pub mod Refusals
+pub mod Printing

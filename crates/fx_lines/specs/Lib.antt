@@ -7,6 +7,7 @@ pub mod Fields
 pub mod Lists
 pub mod Messages
 pub mod Items
+pub mod Printing
 pub mod Refusals
 pub mod Rows
 pub mod RefusedRows

@@ -1,8 +1,9 @@
 //! What follows from the table of lines. The functions do nothing: their contracts are theorems.
-ghost use Rattle.std.specs.Prelude.{◌≡◌, ◌↔◌, ℕ, List, Ok, Err, true};
+ghost use Rattle.std.specs.Prelude.{◌≡◌, ◌↔◌, ◌++◌, ℕ, List, Ok, Err, true};
 ghost use Rattle.fx_item.specs.declared.item.Item.{Item};
 ghost use Rattle.fx_lines.specs.declared.fault.ItemFault.{ItemFault};
 ghost use Rattle.fx_lines.specs.Items.{line_of, item_in, is_writable, is_in_type};
+ghost use Rattle.fx_lines.specs.Printing.{has_forms, spaced, first_word, other_words};
 ghost use Rattle.fx_lines.specs.Refusals.{IsRefused};
 
 /// An item whose fields have their forms is read back from its line.
@@ -27,4 +28,14 @@ pub fn no_two_items_have_one_line()
 pub fn a_line_is_refused_for_its_first_fault()
     ensures no_item { (line : List ℕ) (fault : ItemFault) → item_in line ≡ Err fault → (item : Item) → is_writable item ≡ true → is_in_type item ≡ true → line_of item ≡ line → ⊥ }
     ensures first { (line : List ℕ) (fault : ItemFault) → item_in line ≡ Err fault ↔ IsRefused line fault }
+{}
+
+/// An item can be printed where what it joins with, its name, or its message has its form; any other item can.
+pub fn which_items_are_writable()
+    ensures { (item : Item) → is_writable item ≡ has_forms item }
+{}
+
+/// A line is its first word, and then each other word behind a space.
+pub fn a_line_is_words_behind_spaces()
+    ensures { (item : Item) → line_of item ≡ first_word item ++ spaced (other_words item) }
 {}
