@@ -34,22 +34,62 @@ name = record {
   in_type = λ bytes. true;
 }
 
--- `a1` is a name; `rank`, `1a`, a capital letter and 17 letters are none
+-- names, and what is none
 
 pub a1 : is_name (codes "a1") ≡ true
 a1 = refl
 
+pub the_last_of_each : is_name (codes "z09") ≡ true
+the_last_of_each = refl
+
 pub sixteen_letters : is_name (codes "abcdefghijklmnop") ≡ true
 sixteen_letters = refl
+
+pub longer_than_a_taken_word : is_name (codes "ranks") ≡ true
+longer_than_a_taken_word = refl
+
+pub a_taken_word_and_a_digit : is_name (codes "size1") ≡ true
+a_taken_word_and_a_digit = refl
+
+pub nothing_at_all : is_name [] ≡ false
+nothing_at_all = refl
 
 pub seventeen_letters : is_name (codes "abcdefghijklmnopq") ≡ false
 seventeen_letters = refl
 
+pub index : is_name (codes "index") ≡ false
+index = refl
+
 pub rank : is_name (codes "rank") ≡ false
 rank = refl
+
+pub size : is_name (codes "size") ≡ false
+size = refl
+
+pub latest : is_name (codes "latest") ≡ false
+latest = refl
 
 pub one_a : is_name (codes "1a") ≡ false
 one_a = refl
 
 pub capital : is_name (codes "aB") ≡ false
 capital = refl
+
+pub a_line_below : is_name (codes "a_b") ≡ false
+a_line_below = refl
+
+pub a_line_between : is_name (codes "a-") ≡ false
+a_line_between = refl
+
+pub a_colon : is_name (codes "a:") ≡ false
+a_colon = refl
+
+-- the bytes next to the letters and the digits
+pub before_the_letters : is_name (96 ∷ []) ≡ false
+before_the_letters = refl
+
+pub behind_the_letters : is_name (123 ∷ []) ≡ false
+behind_the_letters = refl
+
+pub before_the_digits : is_name (97 ∷ 47 ∷ []) ≡ false
+before_the_digits = refl

@@ -231,6 +231,57 @@ a_wrong_holding = refl
 pub more_behind_unknown : item_in (codes "send 0 1 tell 2 3 unknown :") ≡ Err (BadField 3)
 more_behind_unknown = refl
 
+pub a_missing_last_word : item_in (codes "close 0 1 2") ≡ Err (BadField 4)
+a_missing_last_word = refl
+
+pub a_longer_kind : item_in (codes "closes 0") ≡ Err NoSuchKind
+a_longer_kind = refl
+
+pub a_further_number : item_in (codes "ended 0 0") ≡ Err TrailingText
+a_further_number = refl
+
+pub a_leading_zero_of_one : item_in (codes "kill 01") ≡ Err (BadField 1)
+a_leading_zero_of_one = refl
+
+pub a_wrong_field_before_missing_ones : item_in (codes "init 0 x") ≡ Err (BadField 2)
+a_wrong_field_before_missing_ones = refl
+
+pub a_wrong_field_before_a_missing_list : item_in (codes "print 0 x a") ≡ Err (BadField 2)
+a_wrong_field_before_a_missing_list = refl
+
+pub a_wrong_field_before_a_wrong_list : item_in (codes "print 0 x a : y") ≡ Err (BadField 2)
+a_wrong_field_before_a_wrong_list = refl
+
+pub a_missing_process : item_in (codes "told 0") ≡ Err (BadField 2)
+a_missing_process = refl
+
+pub an_empty_name : item_in (codes "callback 0 1 ") ≡ Err (BadField 3)
+an_empty_name = refl
+
+pub another_taken_name : item_in (codes "callback 0 1 latest") ≡ Err (BadField 3)
+another_taken_name = refl
+
+pub a_letter_past_the_digits : item_in (codes "send 0 1 share 2 3 : 1=0g") ≡ Err (BadField 3)
+a_letter_past_the_digits = refl
+
+pub two_spaces_behind_a_mark : item_in (codes "print 0 1 a :  1") ≡ Err (BadField 4)
+two_spaces_behind_a_mark = refl
+
+pub two_marks : item_in (codes "print 0 1 a : : 1") ≡ Err (BadField 4)
+two_marks = refl
+
+pub an_empty_slot_first : item_in (codes "send 0 1 jest 2 1 ,lost") ≡ Err (BadField 3)
+an_empty_slot_first = refl
+
+pub a_holding_without_its_list : item_in (codes "send 0 1 tell 2 3 known 1 100 0=0") ≡ Err (BadField 3)
+a_holding_without_its_list = refl
+
+pub an_entry_without_its_index : item_in (codes "store 0 1 0 0 : =5") ≡ Err (BadField 5)
+an_entry_without_its_index = refl
+
+pub an_entry_without_its_stamp : item_in (codes "send 0 1 share 2 3 : =00") ≡ Err (BadField 3)
+an_entry_without_its_stamp = refl
+
 pub a_creation_past_its_type : item_in (codes "send 0 1 tell 2 3 known 4294967296 100 0=0 :") ≡ Err (BadField 3)
 a_creation_past_its_type = refl
 

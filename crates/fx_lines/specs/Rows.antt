@@ -3,7 +3,7 @@ use Rattle.std.specs.Prelude.{◌≡◌, pos, negsuc, true, false, List, [], ◌
 use Rattle.std.proofs.Common.{ap}
 use Rattle.std.specs.FinMap.{from_sorted, entries-from_sorted, is_sorted}
 use Rattle.std.specs.Fmt.{digits}
-use Rattle.std.specs.List.{join_with_byte}
+use Rattle.std.specs.List.{join_with_byte, list_all}
 use Rattle.std.specs.Ordering.{nat_cmp}
 use Rattle.std.specs.declared.cmp.Ordering.{Ordering}
 use Rattle.fx_base.specs.Keys.{by_time}
@@ -423,6 +423,195 @@ survives = refl
 pub survives_read : item_in (codes "init 0 2 survivor 0 0 4 full") ≡ Ok (item.Init (record { 0 = 0 }) (record { 0 = 2 }) role.Survivor (record { 0 = 0 }) 0 4 false)
 survives_read = refl
 
+pub joins_as_a_spare : line_of (item.Join (record { 0 = 0 }) (record { 0 = 2 }) slot.Spare) ≡ codes "join 0 2 spare"
+unfolding digits
+joins_as_a_spare = refl
+
+pub joins_as_a_spare_read : item_in (codes "join 0 2 spare") ≡ Ok (item.Join (record { 0 = 0 }) (record { 0 = 2 }) slot.Spare)
+joins_as_a_spare_read = refl
+
+pub joins_at_the_end : line_of (item.Join (record { 0 = 0 }) (record { 0 = 2 }) slot.Final) ≡ codes "join 0 2 final"
+unfolding digits
+joins_at_the_end = refl
+
+pub joins_at_the_end_read : item_in (codes "join 0 2 final") ≡ Ok (item.Join (record { 0 = 0 }) (record { 0 = 2 }) slot.Final)
+joins_at_the_end_read = refl
+
+pub joins_with_an_error_in_the_first_epoch : line_of (item.Join (record { 0 = 0 }) (record { 0 = 1 }) slot.Error) ≡ codes "join 0 1 error"
+unfolding digits
+joins_with_an_error_in_the_first_epoch = refl
+
+pub joins_with_an_error_in_the_first_epoch_read : item_in (codes "join 0 1 error") ≡ Ok (item.Join (record { 0 = 0 }) (record { 0 = 1 }) slot.Error)
+joins_with_an_error_in_the_first_epoch_read = refl
+
+pub sends_a_join_of_a_spare : line_of (item.Send (record { 0 = 0 }) (record { 0 = 1 }) (message.Join (record { 0 = 2 }) slot.Spare)) ≡ codes "send 0 1 join 2 spare"
+unfolding digits
+sends_a_join_of_a_spare = refl
+
+pub sends_a_join_of_a_spare_read : item_in (codes "send 0 1 join 2 spare") ≡ Ok (item.Send (record { 0 = 0 }) (record { 0 = 1 }) (message.Join (record { 0 = 2 }) slot.Spare))
+sends_a_join_of_a_spare_read = refl
+
+pub sends_a_join_at_the_end : line_of (item.Send (record { 0 = 0 }) (record { 0 = 1 }) (message.Join (record { 0 = 2 }) slot.Final)) ≡ codes "send 0 1 join 2 final"
+unfolding digits
+sends_a_join_at_the_end = refl
+
+pub sends_a_join_at_the_end_read : item_in (codes "send 0 1 join 2 final") ≡ Ok (item.Send (record { 0 = 0 }) (record { 0 = 1 }) (message.Join (record { 0 = 2 }) slot.Final))
+sends_a_join_at_the_end_read = refl
+
+pub sends_a_join_at_the_start : line_of (item.Send (record { 0 = 0 }) (record { 0 = 1 }) (message.Join (record { 0 = 2 }) slot.Start)) ≡ codes "send 0 1 join 2 start"
+unfolding digits
+sends_a_join_at_the_start = refl
+
+pub sends_a_join_at_the_start_read : item_in (codes "send 0 1 join 2 start") ≡ Ok (item.Send (record { 0 = 0 }) (record { 0 = 1 }) (message.Join (record { 0 = 2 }) slot.Start))
+sends_a_join_at_the_start_read = refl
+
+pub sends_a_start_and_an_error : line_of (item.Send (record { 0 = 0 }) (record { 0 = 1 }) (message.Jest (record { 0 = 2 }) 1 (slot.Start ∷ slot.Error ∷ []))) ≡ codes "send 0 1 jest 2 1 start,error"
+unfolding digits
+sends_a_start_and_an_error = refl
+
+pub sends_a_start_and_an_error_read : item_in (codes "send 0 1 jest 2 1 start,error") ≡ Ok (item.Send (record { 0 = 0 }) (record { 0 = 1 }) (message.Jest (record { 0 = 2 }) 1 (slot.Start ∷ slot.Error ∷ [])))
+sends_a_start_and_an_error_read = refl
+
+pub attaches_the_greatest : line_of (item.Attach (record { 0 = 255 }) (record { 0 = 4294967295 }) (record { 0 = 255 }) (record { 0 = 255 })) ≡ codes "attach 255 4294967295 255 255"
+unfolding digits
+attaches_the_greatest = refl
+
+pub attaches_the_greatest_read : item_in (codes "attach 255 4294967295 255 255") ≡ Ok (item.Attach (record { 0 = 255 }) (record { 0 = 4294967295 }) (record { 0 = 255 }) (record { 0 = 255 }))
+attaches_the_greatest_read = refl
+
+pub initial_with_the_greatest : line_of (item.Init (record { 0 = 255 }) (record { 0 = 1 }) role.Initial (record { 0 = 255 }) 255 255 false) ≡ codes "init 255 1 initial 255 255 255 full"
+unfolding digits
+initial_with_the_greatest = refl
+
+pub initial_with_the_greatest_read : item_in (codes "init 255 1 initial 255 255 255 full") ≡ Ok (item.Init (record { 0 = 255 }) (record { 0 = 1 }) role.Initial (record { 0 = 255 }) 255 255 false)
+initial_with_the_greatest_read = refl
+
+pub repaired_with_the_greatest : line_of (item.Repaired (record { 0 = 0 }) (record { 0 = 1 }) 1 false ((record { 0 = 255 }, record { 0 = 255 }) ∷ [])) ≡ codes "repaired 0 1 1 full : 255=255"
+unfolding digits
+repaired_with_the_greatest = refl
+
+pub repaired_with_the_greatest_read : item_in (codes "repaired 0 1 1 full : 255=255") ≡ Ok (item.Repaired (record { 0 = 0 }) (record { 0 = 1 }) 1 false ((record { 0 = 255 }, record { 0 = 255 }) ∷ []))
+repaired_with_the_greatest_read = refl
+
+pub commits_the_greatest_stamp : line_of (item.Commit (record { 0 = 0 }) (record { 0 = 1 }) (record { 0 = 0 }) (record { 0 = pos 9223372036854775807 })) ≡ codes "commit 0 1 0 9223372036854775807"
+unfolding digits
+commits_the_greatest_stamp = refl
+
+pub commits_the_greatest_stamp_read : item_in (codes "commit 0 1 0 9223372036854775807") ≡ Ok (item.Commit (record { 0 = 0 }) (record { 0 = 1 }) (record { 0 = 0 }) (record { 0 = pos 9223372036854775807 }))
+commits_the_greatest_stamp_read = refl
+
+pub commits_the_least_stamp : line_of (item.Commit (record { 0 = 0 }) (record { 0 = 1 }) (record { 0 = 0 }) (record { 0 = negsuc 9223372036854775807 })) ≡ codes "commit 0 1 0 -9223372036854775808"
+unfolding digits
+commits_the_least_stamp = refl
+
+pub commits_the_least_stamp_read : item_in (codes "commit 0 1 0 -9223372036854775808") ≡ Ok (item.Commit (record { 0 = 0 }) (record { 0 = 1 }) (record { 0 = 0 }) (record { 0 = negsuc 9223372036854775807 }))
+commits_the_least_stamp_read = refl
+
+pub enters_call_zero_of_epoch_zero : line_of (item.Barrier (record { 0 = 0 }) (record { 0 = 0 }) (record { 0 = 0 })) ≡ codes "barrier 0 0 0"
+unfolding digits
+enters_call_zero_of_epoch_zero = refl
+
+pub enters_call_zero_of_epoch_zero_read : item_in (codes "barrier 0 0 0") ≡ Ok (item.Barrier (record { 0 = 0 }) (record { 0 = 0 }) (record { 0 = 0 }))
+enters_call_zero_of_epoch_zero_read = refl
+
+pub sends_the_greatest_numbers_in_slots : line_of (item.Send (record { 0 = 255 }) (record { 0 = 255 }) (message.Est (record { 0 = 4294967295 }) (record { 0 = 4294967295 }) 255 ((slot.Flag (pos 9223372036854775807)) ∷ (slot.Flag (negsuc 9223372036854775807)) ∷ (slot.NoLost (record { 0 = 255 })) ∷ (slot.NoLeft (record { 0 = 255 })) ∷ []))) ≡ codes "send 255 255 est 4294967295 4294967295 255 yes=9223372036854775807,yes=-9223372036854775808,nolost=255,noleft=255"
+unfolding digits
+sends_the_greatest_numbers_in_slots = refl
+
+pub sends_the_greatest_numbers_in_slots_read : item_in (codes "send 255 255 est 4294967295 4294967295 255 yes=9223372036854775807,yes=-9223372036854775808,nolost=255,noleft=255") ≡ Ok (item.Send (record { 0 = 255 }) (record { 0 = 255 }) (message.Est (record { 0 = 4294967295 }) (record { 0 = 4294967295 }) 255 ((slot.Flag (pos 9223372036854775807)) ∷ (slot.Flag (negsuc 9223372036854775807)) ∷ (slot.NoLost (record { 0 = 255 })) ∷ (slot.NoLeft (record { 0 = 255 })) ∷ [])))
+sends_the_greatest_numbers_in_slots_read = refl
+
+pub tells_the_greatest_numbers : line_of (item.Send (record { 0 = 0 }) (record { 0 = 1 }) (message.Tell (record { 0 = 4294967295 }) (record { 0 = 4294967295 }) (Some (record { created = record { 0 = 4294967295 }; next = record { 0 = pos 9223372036854775807 }; comm = ((record { 0 = 255 }, record { 0 = 255 }) ∷ []); stamps = (record { 0 = negsuc 9223372036854775807 } ∷ record { 0 = pos 9223372036854775807 } ∷ []) })))) ≡ codes "send 0 1 tell 4294967295 4294967295 known 4294967295 9223372036854775807 255=255 : -9223372036854775808 9223372036854775807"
+unfolding digits
+tells_the_greatest_numbers = refl
+
+pub tells_the_greatest_numbers_read : item_in (codes "send 0 1 tell 4294967295 4294967295 known 4294967295 9223372036854775807 255=255 : -9223372036854775808 9223372036854775807") ≡ Ok (item.Send (record { 0 = 0 }) (record { 0 = 1 }) (message.Tell (record { 0 = 4294967295 }) (record { 0 = 4294967295 }) (Some (record { created = record { 0 = 4294967295 }; next = record { 0 = pos 9223372036854775807 }; comm = ((record { 0 = 255 }, record { 0 = 255 }) ∷ []); stamps = (record { 0 = negsuc 9223372036854775807 } ∷ record { 0 = pos 9223372036854775807 } ∷ []) }))))
+tells_the_greatest_numbers_read = refl
+
+pub sends_the_greatest_part : line_of (item.Send (record { 0 = 0 }) (record { 0 = 1 }) (message.Part (record { 0 = 4294967295 }) (record { 0 = 4294967295 }) (negsuc 9223372036854775807 ∷ pos 9223372036854775807 ∷ []))) ≡ codes "send 0 1 part 4294967295 4294967295 : -9223372036854775808 9223372036854775807"
+unfolding digits
+sends_the_greatest_part = refl
+
+pub sends_the_greatest_part_read : item_in (codes "send 0 1 part 4294967295 4294967295 : -9223372036854775808 9223372036854775807") ≡ Ok (item.Send (record { 0 = 0 }) (record { 0 = 1 }) (message.Part (record { 0 = 4294967295 }) (record { 0 = 4294967295 }) (negsuc 9223372036854775807 ∷ pos 9223372036854775807 ∷ [])))
+sends_the_greatest_part_read = refl
+
+pub refuses_with_what_no_run_names : line_of (item.Refused (record { 0 = 1 }) (record { 0 = 2 }) refusable.Group (record { 0 = 0 }) (record { 0 = 3 }) (record { 0 = pos 5 }) answer.NotStored) ≡ codes "refused 1 2 group 0 3 5 NotStored"
+unfolding digits
+refuses_with_what_no_run_names = refl
+
+pub refuses_with_what_no_run_names_read : item_in (codes "refused 1 2 group 0 3 5 NotStored") ≡ Ok (item.Refused (record { 0 = 1 }) (record { 0 = 2 }) refusable.Group (record { 0 = 0 }) (record { 0 = 3 }) (record { 0 = pos 5 }) answer.NotStored)
+refuses_with_what_no_run_names_read = refl
+
+pub has_a_rank_above_its_size : line_of (item.Init (record { 0 = 0 }) (record { 0 = 1 }) role.Initial (record { 0 = 3 }) 9 2 false) ≡ codes "init 0 1 initial 3 9 2 full"
+unfolding digits
+has_a_rank_above_its_size = refl
+
+pub has_a_rank_above_its_size_read : item_in (codes "init 0 1 initial 3 9 2 full") ≡ Ok (item.Init (record { 0 = 0 }) (record { 0 = 1 }) role.Initial (record { 0 = 3 }) 9 2 false)
+has_a_rank_above_its_size_read = refl
+
+pub tells_itself_of_a_later_epoch : line_of (item.Send (record { 0 = 1 }) (record { 0 = 1 }) (message.Tell (record { 0 = 2 }) (record { 0 = 3 }) (Some (record { created = record { 0 = 9 }; next = record { 0 = pos 1 }; comm = ((record { 0 = 3 }, record { 0 = 3 }) ∷ (record { 0 = 3 }, record { 0 = 3 }) ∷ []); stamps = (record { 0 = pos 5 } ∷ []) })))) ≡ codes "send 1 1 tell 2 3 known 9 1 3=3,3=3 : 5"
+unfolding digits
+tells_itself_of_a_later_epoch = refl
+
+pub tells_itself_of_a_later_epoch_read : item_in (codes "send 1 1 tell 2 3 known 9 1 3=3,3=3 : 5") ≡ Ok (item.Send (record { 0 = 1 }) (record { 0 = 1 }) (message.Tell (record { 0 = 2 }) (record { 0 = 3 }) (Some (record { created = record { 0 = 9 }; next = record { 0 = pos 1 }; comm = ((record { 0 = 3 }, record { 0 = 3 }) ∷ (record { 0 = 3 }, record { 0 = 3 }) ∷ []); stamps = (record { 0 = pos 5 } ∷ []) }))))
+tells_itself_of_a_later_epoch_read = refl
+
+pub fails_by_itself : line_of (item.Failed (record { 0 = 1 }) (record { 0 = 2 }) (record { 0 = 3 }) (record { 0 = 1 })) ≡ codes "failed 1 2 3 1"
+unfolding digits
+fails_by_itself = refl
+
+pub fails_by_itself_read : item_in (codes "failed 1 2 3 1") ≡ Ok (item.Failed (record { 0 = 1 }) (record { 0 = 2 }) (record { 0 = 3 }) (record { 0 = 1 }))
+fails_by_itself_read = refl
+
+pub sends_stamps_below_zero : line_of (item.Send (record { 0 = 0 }) (record { 0 = 1 }) (message.Share (record { 0 = 2 }) (record { 0 = 3 }) (from_sorted ((record { 0 = negsuc 1 }, []) ∷ (record { 0 = negsuc 0 }, []) ∷ [])))) ≡ codes "send 0 1 share 2 3 : -2= -1="
+unfolding digits
+sends_stamps_below_zero = ap (λ words. join_with_byte 32 (codes "send" ∷ codes "0" ∷ codes "1" ∷ codes "share" ∷ codes "2" ∷ codes "3" ∷ words)) (listed_words by_time a_share ((record { 0 = negsuc 1 }, []) ∷ (record { 0 = negsuc 0 }, []) ∷ []) tt)
+
+pub sends_stamps_below_zero_read : item_in (codes "send 0 1 share 2 3 : -2= -1=") ≡ Ok (item.Send (record { 0 = 0 }) (record { 0 = 1 }) (message.Share (record { 0 = 2 }) (record { 0 = 3 }) (from_sorted ((record { 0 = negsuc 1 }, []) ∷ (record { 0 = negsuc 0 }, []) ∷ []))))
+sends_stamps_below_zero_read = refl
+
+pub sends_a_nine : line_of (item.Send (record { 0 = 0 }) (record { 0 = 1 }) (message.Share (record { 0 = 2 }) (record { 0 = 3 }) (from_sorted ((record { 0 = pos 1 }, (25 ∷ [])) ∷ [])))) ≡ codes "send 0 1 share 2 3 : 1=19"
+unfolding digits
+sends_a_nine = ap (λ words. join_with_byte 32 (codes "send" ∷ codes "0" ∷ codes "1" ∷ codes "share" ∷ codes "2" ∷ codes "3" ∷ words)) (listed_words by_time a_share ((record { 0 = pos 1 }, (25 ∷ [])) ∷ []) tt)
+
+pub sends_a_nine_read : item_in (codes "send 0 1 share 2 3 : 1=19") ≡ Ok (item.Send (record { 0 = 0 }) (record { 0 = 1 }) (message.Share (record { 0 = 2 }) (record { 0 = 3 }) (from_sorted ((record { 0 = pos 1 }, (25 ∷ [])) ∷ []))))
+sends_a_nine_read = refl
+
+pub sends_no_snapshot : line_of (item.Send (record { 0 = 0 }) (record { 0 = 1 }) (message.Share (record { 0 = 2 }) (record { 0 = 3 }) (from_sorted []))) ≡ codes "send 0 1 share 2 3 :"
+unfolding digits
+sends_no_snapshot = ap (λ words. join_with_byte 32 (codes "send" ∷ codes "0" ∷ codes "1" ∷ codes "share" ∷ codes "2" ∷ codes "3" ∷ words)) (listed_words by_time a_share [] tt)
+
+pub sends_no_snapshot_read : item_in (codes "send 0 1 share 2 3 :") ≡ Ok (item.Send (record { 0 = 0 }) (record { 0 = 1 }) (message.Share (record { 0 = 2 }) (record { 0 = 3 }) (from_sorted [])))
+sends_no_snapshot_read = refl
+
+pub gets_no_elements : line_of (item.Shifted (record { 0 = 1 }) (record { 0 = 2 }) (record { 0 = 3 }) []) ≡ codes "shifted 1 2 3 :"
+unfolding digits
+gets_no_elements = refl
+
+pub gets_no_elements_read : item_in (codes "shifted 1 2 3 :") ≡ Ok (item.Shifted (record { 0 = 1 }) (record { 0 = 2 }) (record { 0 = 3 }) [])
+gets_no_elements_read = refl
+
+pub shifts_nothing : line_of (item.Shift (record { 0 = 1 }) (record { 0 = 2 }) (record { 0 = 3 }) 0 []) ≡ codes "shift 1 2 3 0 :"
+unfolding digits
+shifts_nothing = refl
+
+pub shifts_nothing_read : item_in (codes "shift 1 2 3 0 :") ≡ Ok (item.Shift (record { 0 = 1 }) (record { 0 = 2 }) (record { 0 = 3 }) 0 [])
+shifts_nothing_read = refl
+
+pub stores_nothing : line_of (item.Store (record { 0 = 1 }) (record { 0 = 2 }) (record { 0 = 0 }) (record { 0 = 0 }) (from_sorted [])) ≡ codes "store 1 2 0 0 :"
+unfolding digits
+stores_nothing = ap (λ words. join_with_byte 32 (codes "store" ∷ codes "1" ∷ codes "2" ∷ codes "0" ∷ codes "0" ∷ words)) (listed_words nat_cmp an_element [] tt)
+
+pub stores_nothing_read : item_in (codes "store 1 2 0 0 :") ≡ Ok (item.Store (record { 0 = 1 }) (record { 0 = 2 }) (record { 0 = 0 }) (record { 0 = 0 }) (from_sorted []))
+stores_nothing_read = refl
+
+pub has_closed_epoch_one : line_of (item.Closed (record { 0 = 0 }) (record { 0 = 1 }) (record { 0 = 2 }) (record { 0 = 0 }) (record { 0 = pos 5 })) ≡ codes "closed 0 1 2 0 5"
+unfolding digits
+has_closed_epoch_one = refl
+
+pub has_closed_epoch_one_read : item_in (codes "closed 0 1 2 0 5") ≡ Ok (item.Closed (record { 0 = 0 }) (record { 0 = 1 }) (record { 0 = 2 }) (record { 0 = 0 }) (record { 0 = pos 5 }))
+has_closed_epoch_one_read = refl
+
 -- ---- what no line can have, and what no type holds
 
 -- a process joins with one of four slots
@@ -454,7 +643,38 @@ tells_no_seats = refl
 pub prints_an_empty_array : is_writable (item.Print (record { 0 = 0 }) (record { 0 = 1 }) (codes "a") []) ≡ true
 prints_an_empty_array = refl
 
--- a process has 8 bits
+-- a process, a group, a member, an identity and a count have 8 bits, an epoch, a call and an index 32, a stamp and a number 64,
+-- and a byte of a snapshot 8
+pub epoch_past_32_bits : is_in_type (item.Passed (record { 0 = 0 }) (record { 0 = 4294967296 }) (record { 0 = 0 })) ≡ false
+epoch_past_32_bits = refl
+
+pub call_past_32_bits : is_in_type (item.Passed (record { 0 = 0 }) (record { 0 = 0 }) (record { 0 = 4294967296 })) ≡ false
+call_past_32_bits = refl
+
+pub group_256 : is_in_type (item.Attach (record { 0 = 0 }) (record { 0 = 0 }) (record { 0 = 256 }) (record { 0 = 0 })) ≡ false
+group_256 = refl
+
+pub member_256 : is_in_type (item.Attach (record { 0 = 0 }) (record { 0 = 0 }) (record { 0 = 0 }) (record { 0 = 256 })) ≡ false
+member_256 = refl
+
+pub stamp_past_64_bits : is_in_type (item.Commit (record { 0 = 0 }) (record { 0 = 0 }) (record { 0 = 0 }) (record { 0 = pos 9223372036854775808 })) ≡ false
+stamp_past_64_bits = refl
+
+pub number_past_64_bits : is_in_type (item.Print (record { 0 = 0 }) (record { 0 = 0 }) (codes "a") (negsuc 9223372036854775808 ∷ [])) ≡ false
+number_past_64_bits = refl
+
+pub identity_256 : is_in_type (item.Repaired (record { 0 = 0 }) (record { 0 = 0 }) 1 false ((record { 0 = 256 }, record { 0 = 0 }) ∷ [])) ≡ false
+identity_256 = refl
+
+pub size_256 : is_in_type (item.Repaired (record { 0 = 0 }) (record { 0 = 0 }) 256 false []) ≡ false
+size_256 = refl
+
+pub index_past_32_bits : is_in_type (item.Store (record { 0 = 0 }) (record { 0 = 0 }) (record { 0 = 0 }) (record { 0 = 0 }) (from_sorted ((4294967296, pos 0) ∷ []))) ≡ false
+index_past_32_bits = ap (list_all an_element.in_type) (entries-from_sorted nat_cmp ((4294967296, pos 0) ∷ []) tt)
+
+pub byte_256 : is_in_type (item.Send (record { 0 = 0 }) (record { 0 = 0 }) (message.Share (record { 0 = 0 }) (record { 0 = 0 }) (from_sorted ((record { 0 = pos 1 }, 256 ∷ []) ∷ [])))) ≡ false
+byte_256 = ap (list_all a_share.in_type) (entries-from_sorted by_time ((record { 0 = pos 1 }, 256 ∷ []) ∷ []) tt)
+
 pub process_256 : is_in_type (item.Kill (record { 0 = 256 })) ≡ false
 process_256 = refl
 
