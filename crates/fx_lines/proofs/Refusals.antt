@@ -1,12 +1,13 @@
 -- A line is refused with its first fault from the left.
-use Rattle.std.proofs.Common.{◌≡◌, ℕ, ◌+◌, ◌⊎◌, true, List, [], ◌∷◌, refl, sym, ap, ◌∙◌, inl, inr}
+use Rattle.std.proofs.Common.{◌≡◌, ℕ, suc, ◌+◌, ◌≤◌, ◌⊎◌, leb, true, List, [], ◌∷◌, refl, sym, ap, ◌∙◌, arith, inl, inr}
+use Rattle.std.proofs.lemmas.Bool.{leb-true}
 use Rattle.std.specs.Prelude.{Option, Some, None, Result, Ok, Err}
 use Rattle.fx_item.specs.declared.item.Item.{Item}
 use Rattle.fx_lines.specs.declared.fault.ItemFault.{ItemFault}
 use Rattle.fx_lines.specs.declared.fault.ItemFault.TheVariants.{NoSuchKind, BadField, TrailingText}
 use Rattle.fx_lines.specs.Fields.{Shape, Said, fields, word_form}
 use Rattle.fx_lines.specs.Forms.{Form, read_nothing, or_bad_field, and_then, one_field, read_kind, read_tabled, made, kind_named, tabled, pieces}
-use Rattle.fx_lines.specs.Items.{Ending, Plain, AMessage, EndingHeld, ending, Kind, item_row, items, line_of, item_in, is_writable, is_in_type}
+use Rattle.fx_lines.specs.Items.{Ending, Plain, AMessage, EndingHeld, ending, Kind, Kill, Join, Repaired, Callback, Init, Print, Attach, Store, Commit, Restore, Refused, Barrier, Reduce, Agree, Shift, Group, Close, Drop, Passed, Value, Shifted, Created, Closed, Failed, Revoked, Ended, Send, Deliver, Told, item_row, items, line_of, item_in, is_writable, is_in_type}
 use Rattle.fx_lines.specs.Lists.{Nothing, Seats, Numbers, Stamps, Elements, Shares}
 use Rattle.fx_lines.specs.Messages.{messages}
 use Rattle.fx_lines.specs.Refusals.{IsWordOf, AreWordsOf, FieldsStand, IsFirstWrong, AreRefused, IsRefused}
@@ -224,3 +225,68 @@ pub no_item : (line : List ℕ) (fault : ItemFault) → item_in line ≡ Err fau
 no_item line fault e i writable fits same =
     let right : ◌≡◌ {A = Result Item ItemFault} (Ok i) (Err fault) = sym (read_again i writable fits) ∙ ap item_in same ∙ e in
     absurd cc
+
+-- ---- the number of a field
+
+-- how many fields a row has: those of one word, and what ends it, if anything
+count : List Shape → Ending → ℕ
+count [] (Plain Nothing) = 0
+count [] end = 1
+count (shape ∷ shapes) end = suc (count shapes end)
+
+one_more : (end : Ending) → (end ≡ Plain Nothing → ⊥) → count [] end ≡ 1
+unfolding count
+one_more (Plain Nothing) more = absurd (more refl)
+one_more (Plain Seats) more = refl
+one_more (Plain Numbers) more = refl
+one_more (Plain Stamps) more = refl
+one_more (Plain Elements) more = refl
+one_more (Plain Shares) more = refl
+one_more AMessage more = refl
+
+within_row : (shapes : List Shape) (end : Ending) (k : ℕ) (words : List (List ℕ)) (wrong : ℕ) → IsFirstWrong shapes end k words wrong → (k ≤ wrong) × (suc wrong ≤ k + count shapes end)
+unfolding count
+within_row [] end k words wrong w = (omega (arith, w.0), omega (arith, w.0, one_more end w.1))
+within_row (shape ∷ shapes) end k [] wrong w = (omega (arith, w), omega (arith, w))
+within_row (shape ∷ shapes) end k (word ∷ words) wrong w = elim w [
+  | inl here ↦ (omega (arith, here.0), omega (arith, here.0))
+  | inr later ↦ let r = within_row shapes end (k + 1) words wrong later.1 in (omega (arith, r), omega (arith, r))
+]
+
+few : (kind : Kind) → leb (count (item_row kind).shapes (item_row kind).end) 7 ≡ true
+unfolding count
+few Kill = refl
+few Join = refl
+few Repaired = refl
+few Callback = refl
+few Init = refl
+few Print = refl
+few Attach = refl
+few Store = refl
+few Commit = refl
+few Restore = refl
+few Refused = refl
+few Barrier = refl
+few Reduce = refl
+few Agree = refl
+few Shift = refl
+few Group = refl
+few Close = refl
+few Drop = refl
+few Passed = refl
+few Value = refl
+few Shifted = refl
+few Created = refl
+few Closed = refl
+few Failed = refl
+few Revoked = refl
+few Ended = refl
+few Send = refl
+few Deliver = refl
+few Told = refl
+
+pub one_to_seven : (line : List ℕ) (k : ℕ) → item_in line ≡ Err (BadField k) → (1 ≤ k) × (k ≤ 7)
+one_to_seven line k e =
+    let r = refused_so line (BadField k) e in
+    let w = within_row (item_row r.0).shapes (item_row r.0).end 1 r.1 k r.3 in
+    (w.0, omega (arith, w, leb-true (count (item_row r.0).shapes (item_row r.0).end) 7 (few r.0)))

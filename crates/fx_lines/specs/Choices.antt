@@ -18,6 +18,7 @@ role_word role.Initial = codes "initial"
 role_word role.Survivor = codes "survivor"
 role_word role.Recovered = codes "recovered"
 
+-- any role
 abbrev pub a_role : WordForm Role
 a_role = choice role_word (λ r. true) (role.Initial ∷ role.Survivor ∷ role.Recovered ∷ [])
 
@@ -27,6 +28,7 @@ op_word op.Sum = codes "sum"
 op_word op.Min = codes "min"
 op_word op.Max = codes "max"
 
+-- any of the three
 abbrev pub an_op : WordForm Op
 an_op = choice op_word (λ o. true) (op.Sum ∷ op.Min ∷ op.Max ∷ [])
 
@@ -36,6 +38,7 @@ how_word how.Fresh = codes "fresh"
 how_word how.Kept = codes "kept"
 how_word how.Lost = codes "lost"
 
+-- any of the three
 abbrev pub a_how : WordForm How
 a_how = choice how_word (λ h. true) (how.Fresh ∷ how.Kept ∷ how.Lost ∷ [])
 
@@ -44,6 +47,7 @@ abbrev pub warning_word : Bool → List ℕ
 warning_word true = codes "spares-depleted"
 warning_word false = codes "full"
 
+-- either
 abbrev pub a_warning : WordForm Bool
 a_warning = choice warning_word (λ w. true) (true ∷ false ∷ [])
 
@@ -57,6 +61,7 @@ statement_word refusable.CommitBarrier = codes "commitbarrier"
 statement_word refusable.Restore = codes "restore"
 statement_word refusable.Drop = codes "drop"
 
+-- any of the seven
 abbrev pub a_statement : WordForm Refusable
 a_statement = choice statement_word (λ s. true)
     (refusable.Group ∷ refusable.Member ∷ refusable.Store ∷ refusable.Commit ∷ refusable.CommitBarrier ∷ refusable.Restore ∷ refusable.Drop ∷ [])
@@ -70,6 +75,7 @@ answer_word answer.NotStored = codes "NotStored"
 answer_word answer.AlreadyCreated = codes "AlreadyCreated"
 answer_word answer.Full = codes "Full"
 
+-- any of the six
 abbrev pub an_answer : WordForm Answer
 an_answer = choice answer_word (λ a. true)
     (answer.NotCreated ∷ answer.NotAttached ∷ answer.NoStamp ∷ answer.NotStored ∷ answer.AlreadyCreated ∷ answer.Full ∷ [])

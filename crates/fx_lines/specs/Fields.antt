@@ -18,7 +18,7 @@ use Rattle.fx_lines.specs.Names.{name}
 use Rattle.fx_lines.specs.Choices.{a_role, an_op, a_how, a_warning, a_statement, an_answer}
 use Rattle.fx_lines.specs.Slots.{a_process, a_slot, a_join_kind, some_slots}
 
--- what a field of one word is; `Count` is a rank, a number of places, a round or a distance
+-- what a field of one word is; `ACount` is a rank, a number of places, a round or a distance
 pub data Shape : Type 0 where
   AProcess : Shape
   AnEpoch : Shape
@@ -64,21 +64,27 @@ Said ASlot = Slot
 Said SomeSlots = List Slot
 Said SomeSeats = List (Ident × Proc)
 
+-- an epoch
 abbrev pub an_epoch : WordForm Epoch
 an_epoch = wrapped (λ n. record { 0 = n }) (λ e. e.0) (natural (2 ^ 32))
 
+-- the number of a call
 abbrev pub a_call : WordForm CallNo
 a_call = wrapped (λ n. record { 0 = n }) (λ k. k.0) (natural (2 ^ 32))
 
+-- a data group
 abbrev pub a_group : WordForm GroupId
 a_group = wrapped (λ n. record { 0 = n }) (λ g. g.0) (natural 256)
 
+-- a member of a data group
 abbrev pub a_member : WordForm MemberId
 a_member = wrapped (λ n. record { 0 = n }) (λ m. m.0) (natural 256)
 
+-- a time stamp
 abbrev pub a_stamp : WordForm Stamp
 a_stamp = wrapped (λ z. record { 0 = z }) (λ t. t.0) integer
 
+-- an identity
 abbrev pub an_identity : WordForm Ident
 an_identity = wrapped (λ n. record { 0 = n }) (λ i. i.0) (natural 256)
 
@@ -125,5 +131,6 @@ pub record Row (End : Type 0) : Type 0 where
   pub shapes : List Shape
   pub end : End
 
+-- such a row
 abbrev pub row : {End : Type 0} → List ℕ → List Shape → End → Row End
 row word shapes end = record { word = word; shapes = shapes; end = end }

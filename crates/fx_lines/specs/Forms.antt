@@ -9,16 +9,14 @@ use Rattle.fx_text.specs.declared.number.NumberFault.{NumberFault}
 use Rattle.fx_lines.specs.declared.fault.ItemFault.{ItemFault}
 use Rattle.fx_lines.specs.declared.fault.ItemFault.TheVariants.{NoSuchKind, BadField, TrailingText}
 
--- values that one word says: the word of a value, the value that a word says, which values have a word, and which are
--- within the numbers of their type
+-- values of one word: how each is spelled and read, which have a word, and which are of their type's numbers
 pub record WordForm (A : Type 0) : Type 0 where
   pub spell : A → List ℕ
   pub read : List ℕ → Option A
   pub has_word : A → Bool
   pub in_type : A → Bool
 
--- values that some words say, the last of a line: the words of a value, and the value that the words say, where the first
--- of them begins the field of this number
+-- values that take all that is left of a line, read from the number of the first field that is left
 pub record Form (A : Type 0) : Type 0 where
   pub words : A → List (List ℕ)
   pub read : ℕ → List (List ℕ) → Result A ItemFault
@@ -91,6 +89,7 @@ pair_in first second (a ∷ []) = None
 pair_in first second (a ∷ b ∷ []) = both (first.read a) (second.read b)
 pair_in first second (a ∷ b ∷ c ∷ more) = None
 
+-- the two words with the byte between them
 abbrev pub pair : {A B : Type 0} → ℕ → WordForm A → WordForm B → WordForm (A × B)
 pair byte first second = record {
   spell = λ v. join_with_byte byte (first.spell v.0 ∷ second.spell v.1 ∷ []);
@@ -109,7 +108,7 @@ abbrev pub is_some_list : {A : Type 0} → List A → Bool
 is_some_list [] = false
 is_some_list (a ∷ rest) = true
 
--- one value or more, with a byte between each two
+-- one value or more, with a byte between each two. The values are of a form in which each has a word
 abbrev pub joined : {A : Type 0} → ℕ → WordForm A → WordForm (List A)
 joined byte each = record {
   spell = λ list. join_with_byte byte (map each.spell list);
@@ -125,6 +124,7 @@ abbrev pub read_nothing : ℕ → List (List ℕ) → Result (Unit {0}) ItemFaul
 read_nothing k [] = Ok tt
 read_nothing k (word ∷ words) = Err TrailingText
 
+-- the line is over
 abbrev pub nothing : Form (Unit {0})
 nothing = record {
   words = λ v. [];
@@ -143,7 +143,7 @@ abbrev pub listed : {A : Type 0} → (List ℕ → Option A) → List (List ℕ)
 listed read [] = None
 listed read (mark ∷ words) = if bytes_eq mark (58 ∷ []) then read_each read words else None
 
--- the word `:`, and then a word for each value, none for no value. All of it is one field
+-- the word `:` and a word for each value, as one field. The values are of a form in which each has a word
 abbrev pub list_of : {A : Type 0} → WordForm A → Form (List A)
 list_of each = record {
   words = λ list. (58 ∷ []) ∷ map each.spell list;
@@ -160,12 +160,12 @@ and_then k None rest = Err (BadField k)
 and_then k (Some a) (Ok b) = Ok (a, b)
 and_then k (Some a) (Err fault) = Err fault
 
--- a field of one word, which must be there and be right, and then the rest, whose first field has the next number.
--- So the first field from the left that is missing or wrong decides
+-- field k, of one word, and then the rest from the next field on: the first that is missing or wrong decides
 abbrev pub read_field : {A B : Type 0} → WordForm A → Form B → ℕ → List (List ℕ) → Result (A × B) ItemFault
 read_field first rest k [] = Err (BadField k)
 read_field first rest k (word ∷ words) = and_then k (first.read word) (rest.read (k + 1) words)
 
+-- a field of one word, and what follows it
 abbrev pub before : {A B : Type 0} → WordForm A → Form B → Form (A × B)
 before first rest = record {
   words = λ v. first.spell v.0 ∷ rest.words v.1;
@@ -179,6 +179,7 @@ abbrev pub one_field : {A : Type 0} → ℕ → Result A ItemFault → Result A 
 one_field k (Ok a) = Ok a
 one_field k (Err fault) = Err (BadField k)
 
+-- the same words, as a field that is right or wrong as a whole
 abbrev pub as_one_field : {A : Type 0} → Form A → Form A
 as_one_field form = record {
   words = form.words;
@@ -189,8 +190,7 @@ as_one_field form = record {
 
 -- ---- tables: kinds of values, each with a first word of its own and a form for what follows it
 
--- K are the kinds and X the values; a value is taken apart into its kind and what that kind holds, and put together
--- from them
+-- kinds K of values X: a value is taken apart into its kind and what that holds, and is put together from them
 pub record Table (K X : Type 0) : Type 1 where
   pub kinds : List K
   pub word : K → List ℕ
@@ -214,6 +214,7 @@ abbrev pub read_kind : {K X : Type 0} → Table K X → ℕ → Option K → Lis
 read_kind table k None words = Err NoSuchKind
 read_kind table k (Some kind) words = made (table.whole kind) ((table.form kind).read (k + 1) words)
 
+-- the first word names the kind
 abbrev pub read_tabled : {K X : Type 0} → Table K X → ℕ → List (List ℕ) → Result X ItemFault
 read_tabled table k [] = Err NoSuchKind
 read_tabled table k (word ∷ words) = read_kind table k (kind_named table word) words

@@ -15,14 +15,17 @@ pub data Ending : Type 0 where
   Plain : Tail → Ending
   AMessage : Ending
 
+-- what each ending holds
 abbrev pub EndingHeld : Ending → Type 0
 EndingHeld (Plain t) = TailHeld t
 EndingHeld AMessage = Message
 
+-- how each is spelled and read
 abbrev pub ending : (e : Ending) → Form (EndingHeld e)
 ending (Plain t) = tail t
 ending AMessage = as_one_field (tabled messages)
 
+-- the kinds of items
 pub data Kind : Type 0 where
   Kill : Kind
   Join : Kind
@@ -86,9 +89,11 @@ item_row Send = row (codes "send") (AProcess ∷ AProcess ∷ []) AMessage
 item_row Deliver = row (codes "deliver") (AProcess ∷ AProcess ∷ []) AMessage
 item_row Told = row (codes "told") (AProcess ∷ AProcess ∷ []) (Plain Nothing)
 
+-- the fields of each kind
 abbrev pub ItemHeld : Kind → Type 0
 ItemHeld kind = Fields (item_row kind).shapes (EndingHeld (item_row kind).end)
 
+-- the kind of an item
 abbrev pub item_kind : Item → Kind
 item_kind (item.Kill p) = Kill
 item_kind (item.Join p e kind) = Join
@@ -184,6 +189,7 @@ item_whole Send v = item.Send v.0 v.1.0 v.1.1
 item_whole Deliver v = item.Deliver v.0 v.1.0 v.1.1
 item_whole Told v = item.Told v.0 v.1.0
 
+-- the table, with its two directions
 abbrev pub items : Table Kind Item
 items = record {
   kinds = Kill ∷ Join ∷ Repaired ∷ Callback ∷ Init ∷ Print ∷ Attach ∷ Store ∷ Commit ∷ Restore ∷ Refused ∷ Barrier ∷ Reduce ∷ Agree ∷ Shift ∷ Group ∷ Close ∷ Drop ∷ Passed ∷ Value
@@ -204,16 +210,14 @@ item_words i = (tabled items).words i
 abbrev pub line_of : Item → List ℕ
 line_of i = join_with_byte 32 (item_words i)
 
--- the item of a line, or why there is none. The words are what stands between the spaces, so two spaces in a row have an
--- empty word between them
+-- the item of a line, or why there is none. Two spaces in a row have an empty word between them
 abbrev pub item_in : List ℕ → Result Item ItemFault
 item_in line = (tabled items).read 0 (pieces 32 line)
 
--- each field has its form: a name is a name, a process joins with one of four kinds, and a list that is joined by commas has
--- an entry
+-- each field has its form, and a list that is joined by commas has an entry
 abbrev pub is_writable : Item → Bool
 is_writable i = (tabled items).has_words i
 
--- each number is one of its field's type, which is so for every value of a type
+-- each number is one of its field's type, as each number of a value in a program is
 abbrev pub is_in_type : Item → Bool
 is_in_type i = (tabled items).in_type i

@@ -17,7 +17,7 @@ abbrev pub risen : {K X : Type 0} → (order : K → K → Ordering) → Option 
 risen order None = None
 risen order (Some es) = if is_sorted order es then Some (from_sorted es) else None
 
--- a map, as the list of its entries in rising order of their keys
+-- a map, as the list of its entries in rising order of their keys. Each entry has a word
 abbrev pub map_of : {K X : Type 0} → (order : K → K → Ordering) → WordForm (K × X) → Form (FinMap order X)
 map_of order each = record {
   words = λ m. (list_of each).words (entries m);
@@ -43,6 +43,7 @@ pub data Tail : Type 0 where
   Elements : Tail
   Shares : Tail
 
+-- what each of them holds
 abbrev pub TailHeld : Tail → Type 0
 TailHeld Nothing = Unit {0}
 TailHeld Seats = List (Ident × Proc)
@@ -51,6 +52,7 @@ TailHeld Stamps = List Stamp
 TailHeld Elements = FinMap nat_cmp ℤ
 TailHeld Shares = FinMap by_time (List ℕ)
 
+-- how each is spelled and read
 abbrev pub tail : (t : Tail) → Form (TailHeld t)
 tail Nothing = nothing
 tail Seats = list_of a_seat

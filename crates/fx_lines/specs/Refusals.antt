@@ -22,8 +22,7 @@ FieldsStand [] words rest = words ≡ rest
 FieldsStand (shape ∷ shapes) [] rest = ⊥
 FieldsStand (shape ∷ shapes) (word ∷ words) rest = IsWordOf shape word × FieldsStand shapes words rest
 
--- of the fields from number k on, that of number `wrong` is the first that is missing or wrong. A list or a message that
--- ends the row is a field too
+-- from field k on, field `wrong` is the first that is missing or wrong; a list or a message is the last field
 abbrev pub IsFirstWrong : List Shape → Ending → ℕ → List (List ℕ) → ℕ → Type 0
 IsFirstWrong [] end k words wrong = (wrong ≡ k) × (end ≡ Plain Nothing → ⊥) × (AreWordsOf (ending end) words → ⊥)
 IsFirstWrong (shape ∷ shapes) end k [] wrong = wrong ≡ k

@@ -76,6 +76,7 @@ is_join_kind slot.Error = true
 is_join_kind slot.Final = true
 is_join_kind s = false
 
+-- one of those four
 abbrev pub a_join_kind : WordForm Slot
 a_join_kind = choice slot_name is_join_kind (slot.Start ∷ slot.Spare ∷ slot.Error ∷ slot.Final ∷ [])
 
