@@ -1,0 +1,11 @@
+pub mod Separated
+pub mod Sound
+pub mod NumberForms
+pub mod HexForm
+pub mod WordForms
+pub mod Shapes
+pub mod Rows
+pub mod Messages
+pub mod Items
+pub mod Refusals
+pub mod Printing

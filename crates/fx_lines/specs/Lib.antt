@@ -1,0 +1,13 @@
+pub mod Forms
+pub mod Names
+pub mod Choices
+pub mod Hex
+pub mod Slots
+pub mod Fields
+pub mod Lists
+pub mod Messages
+pub mod Items
+pub mod Printing
+pub mod Refusals
+pub mod Rows
+pub mod RefusedRows
