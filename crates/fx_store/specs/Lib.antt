@@ -1,0 +1,5 @@
+pub mod Store
+pub mod Packed
+pub mod Redundancy
+pub mod Mirror
+pub mod Rows

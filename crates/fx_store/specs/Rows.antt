@@ -1,0 +1,154 @@
+-- Worked rows: what the definitions give, by computation.
+use Rattle.std.specs.Prelude.{◌≡◌, refl, ℕ, pos, negsuc, ◌++◌, Bool, true, false, ◌||◌, ◌==◌, List, [], ◌∷◌, take, replicate, Option, Some, None}
+use Rattle.fx_base.specs.Sets.{those_below}
+use Rattle.fx_base.specs.declared.names.Stamp.{Stamp}
+use Rattle.fx_store.specs.Mirror.{mirror, buddy}
+use Rattle.fx_store.specs.Packed.{Run, Section, text_bytes, is_text, runs_of, text_in, elements_in, run_in, runs_in, section_in, sections_in}
+use Rattle.fx_store.specs.Redundancy.{bytes_at}
+use Rattle.fx_store.specs.Store.{counted, newest, newest_stamp}
+
+-- ---- packed snapshots
+
+-- member 0 has element 9 at index 1
+abbrev pub one_element : List Section
+one_element = record { member = 0; runs = record { start = 1; elements = pos 9 ∷ [] } ∷ [] } ∷ []
+
+-- 46 58 01 01, 00 0001, 0001 0001, 0000000000000009
+abbrev pub one_element_bytes : List ℕ
+one_element_bytes = 70 ∷ 88 ∷ 1 ∷ 1 ∷ 0 ∷ 0 ∷ 1 ∷ 0 ∷ 1 ∷ 0 ∷ 1 ∷ 0 ∷ 0 ∷ 0 ∷ 0 ∷ 0 ∷ 0 ∷ 0 ∷ 9 ∷ []
+
+one_is_in_order : is_text one_element ≡ true
+one_is_in_order = refl
+
+one_is_spelled : text_bytes one_element ≡ one_element_bytes
+one_is_spelled = refl
+
+one_is_read : text_in (one_element_bytes ++ 7 ∷ 7 ∷ []) ≡ Some (one_element, 7 ∷ 7 ∷ [])
+unfolding text_in sections_in section_in runs_in run_in elements_in
+one_is_read = refl
+
+-- with a byte less nothing is read
+cut_short : text_in (take 18 one_element_bytes) ≡ None
+unfolding text_in sections_in section_in runs_in run_in elements_in
+cut_short = refl
+
+-- nor with another version
+other_version : text_in (70 ∷ 88 ∷ 2 ∷ 1 ∷ 0 ∷ 0 ∷ 1 ∷ 0 ∷ 1 ∷ 0 ∷ 1 ∷ 0 ∷ 0 ∷ 0 ∷ 0 ∷ 0 ∷ 0 ∷ 0 ∷ 9 ∷ []) ≡ None
+unfolding text_in sections_in section_in runs_in run_in elements_in
+other_version = refl
+
+-- members 3 and 5: the first has -1 and -2 at 254 and 255, and the second was stored with no index
+abbrev pub two_members : List Section
+two_members =
+    record { member = 3; runs = record { start = 254; elements = negsuc 0 ∷ negsuc 1 ∷ [] } ∷ [] }
+    ∷ record { member = 5; runs = [] }
+    ∷ []
+
+two_are_in_order : is_text two_members ≡ true
+two_are_in_order = refl
+
+-- 46 58 01 02, 03 0001, 00fe 0002, ffffffffffffffff fffffffffffffffe, 05 0000
+two_are_spelled :
+    text_bytes two_members
+    ≡ (70 ∷ 88 ∷ 1 ∷ 2 ∷ 3 ∷ 0 ∷ 1 ∷ 0 ∷ 254 ∷ 0 ∷ 2 ∷ []) ++ (replicate 8 255 ++ (replicate 7 255 ++ (254 ∷ 5 ∷ 0 ∷ 0 ∷ [])))
+two_are_spelled = refl
+
+two_are_read : text_in (text_bytes two_members) ≡ Some (two_members, [])
+unfolding text_in sections_in section_in runs_in run_in elements_in
+two_are_read = refl
+
+-- two runs side by side are no runs of a text, and aren't read
+abbrev pub side_by_side : List Section
+side_by_side = record { member = 0; runs = record { start = 1; elements = pos 9 ∷ [] } ∷ record { start = 2; elements = pos 9 ∷ [] } ∷ [] } ∷ []
+
+side_by_side_is_no_text : is_text side_by_side ≡ false
+side_by_side_is_no_text = refl
+
+side_by_side_is_not_read : text_in (text_bytes side_by_side) ≡ None
+unfolding text_in sections_in section_in runs_in run_in elements_in
+side_by_side_is_not_read = refl
+
+-- nor are members that don't rise
+abbrev pub falling : List Section
+falling = record { member = 1; runs = [] } ∷ record { member = 0; runs = [] } ∷ []
+
+falling_is_no_text : is_text falling ≡ false
+falling_is_no_text = refl
+
+falling_is_not_read : text_in (text_bytes falling) ≡ None
+unfolding text_in sections_in section_in runs_in run_in elements_in
+falling_is_not_read = refl
+
+-- nor is a run without elements, nor one that reaches index 256
+no_element : text_in (70 ∷ 88 ∷ 1 ∷ 1 ∷ 0 ∷ 0 ∷ 1 ∷ 0 ∷ 1 ∷ 0 ∷ 0 ∷ []) ≡ None
+unfolding text_in sections_in section_in runs_in run_in elements_in
+no_element = refl
+
+index_256 : is_text (record { member = 0; runs = record { start = 255; elements = pos 1 ∷ pos 2 ∷ [] } ∷ [] } ∷ []) ≡ false
+index_256 = refl
+
+-- eight members are claimed, and a run of 65,535 elements
+claimed_only : text_in (70 ∷ 88 ∷ 1 ∷ 8 ∷ 0 ∷ 255 ∷ 255 ∷ 0 ∷ 0 ∷ 255 ∷ 255 ∷ []) ≡ None
+unfolding text_in sections_in section_in runs_in run_in elements_in
+claimed_only = refl
+
+-- the runs of elements at 1, 2 and 4
+longest_runs :
+    runs_of ((1, pos 10) ∷ (2, pos 20) ∷ (4, pos 40) ∷ [])
+    ≡ record { start = 1; elements = pos 10 ∷ pos 20 ∷ [] } ∷ record { start = 4; elements = pos 40 ∷ [] } ∷ []
+longest_runs = refl
+
+-- ---- stamps
+
+-- three stamps from 5 on
+three_stamps : counted (record { 0 = pos 5 }) 3 ≡ record { 0 = pos 5 } ∷ record { 0 = pos 6 } ∷ record { 0 = pos 7 } ∷ []
+three_stamps = refl
+
+newest_two : newest {X = ℕ} 2 (1 ∷ 2 ∷ 3 ∷ 4 ∷ []) ≡ 3 ∷ 4 ∷ []
+newest_two = refl
+
+-- ---- the mirror
+
+-- among four places at separation 2, place 0 is kept by place 2, and keeps place 2
+keepers_of_0 : those_below ((mirror 2).keepers 4 0) 4 ≡ 2 ∷ []
+unfolding those_below
+keepers_of_0 = refl
+
+wards_of_0 : those_below ((mirror 2).wards 4 0) 4 ≡ 2 ∷ []
+unfolding those_below
+wards_of_0 = refl
+
+covers_0_1 : (mirror 2).covers 4 (λ j. j == 0 || j == 1) ≡ true
+covers_0_1 = refl
+
+covers_not_0_2 : (mirror 2).covers 4 (λ j. j == 0 || j == 2) ≡ false
+covers_not_0_2 = refl
+
+-- a separation past the number of places begins anew: 4 is as 1 among four places
+buddies_at_4 : buddy 4 4 0 ∷ buddy 4 4 3 ∷ [] ≡ 1 ∷ 0 ∷ []
+buddies_at_4 = refl
+
+-- one place has no keeper, and isn't covered
+alone : those_below ((mirror 3).keepers 1 0) 1 ≡ []
+unfolding those_below
+alone = refl
+
+alone_is_lost : (mirror 3).covers 1 (λ j. j == 0) ≡ false
+alone_is_lost = refl
+
+-- place 2 keeps the bytes of place 0, gives them for it, and gives nothing for place 1
+share_of_2 : (mirror 2).fold 4 2 (bytes_at ((0, 7 ∷ 8 ∷ []) ∷ (1, 9 ∷ []) ∷ [])) ≡ 7 ∷ 8 ∷ []
+unfolding those_below
+share_of_2 = refl
+
+help_of_2 : (mirror 2).help 4 2 0 [] (7 ∷ 8 ∷ []) ≡ 7 ∷ 8 ∷ []
+help_of_2 = refl
+
+no_help_of_2 : (mirror 2).help 4 2 1 [] (7 ∷ 8 ∷ []) ≡ []
+no_help_of_2 = refl
+
+made_again : (mirror 2).rebuild 4 0 (bytes_at ((1, 1 ∷ []) ∷ (2, 7 ∷ 8 ∷ []) ∷ [])) ≡ Some (7 ∷ 8 ∷ [])
+made_again = refl
+
+not_made_again : (mirror 2).rebuild 4 0 (bytes_at ((1, 1 ∷ []) ∷ [])) ≡ None
+not_made_again = refl

@@ -1,0 +1,7 @@
+//! What a process keeps of a data group, how a snapshot is spelled in bytes, and what redundancy is. Definitions and laws, no
+//! code.
+#![tactic(auto)]
+
+mod answers;
+
+pub use answers::{CommitEnd, DeleteEnd, FindEnd, StoreEnd};
