@@ -1,3 +1,5 @@
 pub mod Overlays
 pub mod Uncovered
+pub mod Buddies
+pub mod Mirrors
 mod StoreRows
