@@ -1,11 +1,11 @@
 -- What the operations on the bits of a number are to the set that they are seen as.
-use Rattle.std.proofs.Common.{◌≡◌, ℕ, ◌+◌, ◌*◌, ◌^◌, ◌<◌, ◌≤◌, ◌%◌, zero, suc, Bool, true, false, cond, ◌||◌, ◌==◌, bit_or, bit_and, max, count_ones, true≢false, [], ◌∷◌, length, length-append, refl, sym, ap, ◌∙◌, arith, inl, inr}
+use Rattle.std.proofs.Common.{◌≡◌, ℕ, ◌+◌, ◌*◌, ◌^◌, ◌<◌, ◌≤◌, ◌%◌, zero, suc, Bool, true, false, cond, not, ◌&&◌, ◌||◌, ◌-◌, ◌==◌, bit_or, bit_and, max, min, count_ones, true≢false, [], ◌∷◌, length, length-append, refl, sym, ap, ◌∙◌, arith, inl, inr}
 use Rattle.std.specs.Int.{bit_at, bit_not, trailing_zeros, w32}
 use Rattle.std.specs.Ordering.{nat_cmp, eq_by_cmp}
 use Rattle.std.specs.Cmp.{nat_cmp_total, unsigned_tied}
 use Rattle.std.specs.FinSet as set
 use Rattle.std.proofs.lemmas.Bool.{eq-eqb, ne_eqb, cases_eq, cases_lt}
-use Rattle.std.proofs.lemmas.Nat.Bits.{bit_at_set_same, bit_at_set_other, bit_at_clear_same, bit_at_clear_other, bit_at_or, bit_at-lt, bit_at-zero, bit_at-trailing_zeros}
+use Rattle.std.proofs.lemmas.Nat.Bits.{bit_at_set_same, bit_at_set_other, bit_at_clear_same, bit_at_clear_other, bit_at_or, bit_at_and, bit_at_not, bit_at-lt, bit_at-zero, bit_at-trailing_zeros}
 use Rattle.std.proofs.lemmas.Nat.{mod-pow-add, ones_cat, mod_below, pow_pos}
 use Rattle.std.proofs.Math.Nat.{mod-eq_of_lt, mod-one}
 use lib.Count.{ones}
@@ -72,6 +72,21 @@ or_is_union a b =
     (λ m below. rw (set.contains-union nat_cmp_total (set_below (has_bit a) 32) (set_below (has_bit b) 32) m, in_set (has_bit a) 32 m below, in_set (has_bit b) 32 m below, bit_at_or a b m)
     (one_of_two (bit_at a m) (bit_at b m) (bit_at-lt a m) (bit_at-lt b m)))
     (λ m beyond. rw (set.contains-union nat_cmp_total (set_below (has_bit a) 32) (set_below (has_bit b) 32) m, past_set (has_bit a) 32 m beyond, past_set (has_bit b) 32 m beyond) refl)
+
+both_of_two : (x y : ℕ) → x < 2 → y < 2 → (min x (1 - y) == 1) ≡ ((x == 1) && not (y == 1))
+both_of_two zero zero p q = refl
+both_of_two zero (suc zero) p q = refl
+both_of_two (suc zero) zero p q = refl
+both_of_two (suc zero) (suc zero) p q = refl
+both_of_two (suc (suc x)) y p q = absurd (omega arith)
+both_of_two x (suc (suc y)) p q = absurd (omega arith)
+
+pub and_not_is_difference : (a b : ℕ) → b < 2 ^ 32 → set_below (has_bit (bit_and a (bit_not w32 b))) 32 ≡ set.difference (set_below (has_bit a) 32) (set_below (has_bit b) 32)
+and_not_is_difference a b within =
+    same_bits (bit_and a (bit_not w32 b)) (set.difference (set_below (has_bit a) 32) (set_below (has_bit b) 32))
+    (λ m below. rw (set.contains-difference nat_cmp_total (set_below (has_bit a) 32) (set_below (has_bit b) 32) m, in_set (has_bit a) 32 m below, in_set (has_bit b) 32 m below, bit_at_and a (bit_not w32 b) m, bit_at_not w32 b m within below)
+    (both_of_two (bit_at a m) (bit_at b m) (bit_at-lt a m) (bit_at-lt b m)))
+    (λ m beyond. rw (set.contains-difference nat_cmp_total (set_below (has_bit a) 32) (set_below (has_bit b) 32) m, past_set (has_bit a) 32 m beyond) refl)
 
 pub zero_is_empty : set_below (has_bit 0) 32 ≡ set.empty
 zero_is_empty =

@@ -1,3 +1,5 @@
 pub mod Entries
 pub mod Maps
+pub mod Rising
 pub mod Bits
+pub mod Bounded

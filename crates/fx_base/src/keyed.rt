@@ -138,7 +138,7 @@ pub(crate) fn copy_entries<K: Key, V: Copied>(
 ) -> Result<Vec<(K, V)>, NoMemory>
     ensures { IfOk result (λ copy. copy.items ≡ entries.now) }
 {
-    let mut copy = Vec::new(alloc);
+    let mut copy = Vec::with_capacity(alloc, entries.len())?;
     for entry in entries {
         copy.push((entry.0, entry.1.copied()?))?;
     }

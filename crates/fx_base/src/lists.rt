@@ -13,8 +13,5 @@ pub type Stamps = Seq<Stamp>;
 /// Pairs of a first and a last index.
 pub type Pairs = Seq<(u32, u32)>;
 
-/// Places, each with the bytes that it gives.
-pub type Shares = Seq<(u8, Bytes)>;
-
 /// Identities, each with the process that has it.
 pub type Seats = Seq<(Ident, Proc)>;

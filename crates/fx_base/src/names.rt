@@ -52,7 +52,7 @@ pub enum Op {
 /// What the creation of a data group found of the data stored before.
 #[derive(Clone, Copy, Debug, PartialEq, Eq)]
 pub enum How {
-    /// Nothing was stored under this group yet.
+    /// No place holds anything of this group: it wasn't created before, or what was stored was given up with it.
     Fresh,
     /// Every identity's closed snapshots are there.
     Kept,

@@ -56,20 +56,32 @@ impl ProcSet {
         self.bits &= !(1 << n);
     }
 
-    /// Whether a number from 0 to 31 is in the set.
+    /// Whether a number from 0 to 31 is in the set. Each member is below 32.
     pub fn has(&self, n: u8) -> bool
         requires { n < 32 }
-        ensures { result ≡ set.contains self.now n }
+        ensures member { result ≡ set.contains self.now n }
+        ensures below { IsBelow 32 self.now }
     {
         (self.bits >> n) & 1 == 1
     }
 
-    /// What is in either set.
+    /// What is in either set. Each member is below 32.
     pub fn union(&self, other: ProcSet) -> ProcSet
-        ensures { result ≡ set.union self.now other }
+        ensures union { result ≡ set.union self.now other }
+        ensures below { IsBelow 32 result }
     {
         ProcSet {
             bits: self.bits | other.bits,
+        }
+    }
+
+    /// What is in this set and not in the other. Each member of this one is below 32.
+    pub fn difference(&self, other: ProcSet) -> ProcSet
+        ensures difference { result ≡ set.difference self.now other }
+        ensures below { IsBelow 32 self.now }
+    {
+        ProcSet {
+            bits: self.bits & !other.bits,
         }
     }
 

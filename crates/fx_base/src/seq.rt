@@ -1,4 +1,4 @@
-ghost use Rattle.std.specs.Prelude.{◌≡◌, ◌<◌, ◌++◌, ◌∷◌, [], length, IfOk, OnOk, OnErr, slice_get, slice_set};
+ghost use Rattle.std.specs.Prelude.{◌≡◌, ◌<◌, ◌++◌, ◌∷◌, [], length, ◌↔◌, IsTrue, IfOk, OnOk, OnErr, slice_get, slice_set};
 ghost use Rattle.std.specs.Option.{option_copied};
 
 use crate::copied::Copied;
@@ -40,6 +40,13 @@ impl<T> Seq<T> {
         self.items.len()
     }
 
+    /// Whether there is no item.
+    pub fn is_empty(&self) -> bool
+        ensures { IsTrue result ↔ (self.now ≡ []) }
+    {
+        self.items.is_empty()
+    }
+
     /// Item `k`, from 0; `None` exactly where `k` isn't below the length.
     pub fn nth(&self, k: usize) -> Option<&T>
         ensures { option_copied result ≡ slice_get self.now k }
@@ -53,6 +60,13 @@ impl<T> Seq<T> {
     {
         self.items.as_slice()
     }
+
+    /// The items themselves, moved out of the list.
+    pub fn into_items(self) -> Vec<T>
+        ensures { result.items ≡ self }
+    {
+        self.items
+    }
 }
 
 impl<T: Drop> Seq<T> {
@@ -64,6 +78,32 @@ impl<T: Drop> Seq<T> {
         self.items.push(item)?;
         Ok(())
     }
+
+    /// Moves all the items of the other list to the end of this one, and leaves the other empty. Without memory
+    /// both lists stay as they were.
+    pub fn append_list(&mut self, more: &mut Seq<T>) -> Result<(), NoMemory>
+        ensures ok { OnOk result (self.new ≡ self.old ++ more.old) }
+        ensures emptied { OnOk result (more.new ≡ []) }
+        ensures no_memory { OnErr result ((self.new ≡ self.old) × (more.new ≡ more.old)) }
+    {
+        self.items.append(&mut more.items)?;
+        Ok(())
+    }
+
+    /// Takes all the items out. Their room is kept for the next ones.
+    pub fn clear(&mut self)
+        ensures { self.new ≡ [] }
+    {
+        self.items.clear();
+    }
+
+    /// Makes room for so many more items at once. The list stays as it was, also without memory.
+    pub fn reserve(&mut self, more: usize) -> Result<(), NoMemory>
+        ensures { self.new ≡ self.old }
+    {
+        self.items.reserve(more)?;
+        Ok(())
+    }
 }
 
 impl<T: Copied> Seq<T> {
@@ -71,11 +111,8 @@ impl<T: Copied> Seq<T> {
     pub fn copy(&self) -> Result<Self, NoMemory>
         ensures { IfOk result (λ copy. copy ≡ self.now) }
     {
-        let mut copy = Seq::new(*self.items.allocator());
-        for item in self.items.iter() {
-            copy.push(item.copied()?)?;
-        }
-        Ok(copy)
+        let items = T::copied_all(*self.items.allocator(), &self.items)?;
+        Ok(Seq { items })
     }
 }
 

@@ -1,4 +1,4 @@
-ghost use Rattle.std.specs.Prelude.{◌≡◌, OnOk, OnErr, IfOk, slice_get};
+ghost use Rattle.std.specs.Prelude.{◌≡◌, ◌==◌, OnOk, OnErr, IfOk, slice_get};
 ghost use Rattle.std.specs.Option.{option_copied, option_map};
 ghost use Rattle.std.specs.FinMap as map;
 
@@ -62,6 +62,13 @@ impl StampShares {
         ensures { result ≡ map.len self.now }
     {
         self.entries.len()
+    }
+
+    /// Whether there is no stamp.
+    pub fn is_empty(&self) -> bool
+        ensures { result ≡ (map.len self.now == 0) }
+    {
+        self.entries.is_empty()
     }
 
     /// The bytes at the stamp, if it is there.

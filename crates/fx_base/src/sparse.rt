@@ -1,4 +1,4 @@
-ghost use Rattle.std.specs.Prelude.{◌≡◌, OnOk, OnErr, IfOk, slice_get};
+ghost use Rattle.std.specs.Prelude.{◌≡◌, ◌==◌, OnOk, OnErr, IfOk, slice_get};
 ghost use Rattle.std.specs.Option.{option_copied, option_map};
 ghost use Rattle.std.specs.FinMap as map;
 
@@ -53,6 +53,13 @@ impl Sparse {
         ensures { result ≡ map.len self.now }
     {
         self.entries.len()
+    }
+
+    /// Whether there is no index.
+    pub fn is_empty(&self) -> bool
+        ensures { result ≡ (map.len self.now == 0) }
+    {
+        self.entries.is_empty()
     }
 
     /// The element at the index, if there is one.

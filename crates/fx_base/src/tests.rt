@@ -8,11 +8,37 @@ fn bytes_grow_at_their_end(rt: HostRuntime) -> Result<(), Fail> {
     assert_eq!(rt; bytes.len(), 0);
     bytes.push(b'a')?;
     bytes.append(b"bc")?;
+    bytes.reserve(8)?;
     let copy = bytes.copy()?;
     assert_eq!(rt; copy.as_slice(), b"abc".as_slice());
     assert_eq!(rt; copy.nth(2).copied(), Some(b'c'));
     assert_eq!(rt; copy.nth(3).copied(), None);
     assert!(rt; copy == bytes);
+    let mut more = Bytes::new(rt.alloc());
+    more.append(b"de")?;
+    bytes.append_list(&mut more)?;
+    assert_eq!(rt; bytes.as_slice(), b"abcde".as_slice());
+    assert!(rt; more.is_empty());
+    bytes.clear();
+    assert_eq!(rt; bytes.len(), 0);
+    let items = copy.into_items();
+    assert_eq!(rt; items.as_slice(), b"abc".as_slice());
+    Ok(())
+}
+
+#[test]
+fn shares_are_in_rising_place(rt: HostRuntime) -> Result<(), Fail> {
+    let mut shares = Shares::new(rt.alloc());
+    assert!(rt; shares.is_empty());
+    for (place, text) in [(2, b"ab".as_slice()), (5, b"".as_slice())] {
+        let mut bytes = Bytes::new(rt.alloc());
+        bytes.append(text)?;
+        shares.push((place, bytes))?;
+    }
+    let copy = Copied::copied(&shares)?;
+    assert_eq!(rt; copy.len(), 2);
+    assert_eq!(rt; copy.nth(1).map(|share| share.0), Some(5));
+    assert_eq!(rt; copy.as_slice()[0].1.as_slice(), b"ab".as_slice());
     Ok(())
 }
 
@@ -30,6 +56,7 @@ fn sets_hold_numbers_below_32(rt: HostRuntime) -> Result<(), Fail> {
     assert_eq!(rt; (more.count(), more.least()), (3, Some(0)));
     assert!(rt; lost.has(31) && lost.has(4) && !lost.has(0) && !more.has(4));
     assert_eq!(rt; lost.union(more).count(), 4);
+    assert_eq!(rt; lost.difference(more).least(), Some(4));
     Ok(())
 }
 
