@@ -3,7 +3,7 @@ use Rattle.std.proofs.Common.{◌≡◌, ◌≢◌, ◌⊎◌, inl, inr, refl, s
 use Rattle.std.specs.Prelude.{if◌then◌else◌}
 use Rattle.std.proofs.lemmas.Bool.{cases_lt, eqb-true, eqb-false, eq-eqb, ne_eqb}
 use Rattle.std.proofs.Math.Nat.{mod-eq_of_lt, mod-eq-sub-mod, mod-lt}
-use Rattle.fx_store.specs.Mirror.{buddy, is_keeper}
+use Rattle.fx_store.specs.Mirror.{buddy, AreBuddies}
 
 -- i + d modulo n, where both are below n
 module _ (n d : ℕ) (some : 0 < d) (few : d < n) where
@@ -74,9 +74,6 @@ module _ (s n : ℕ) (many : 1 < n) where
   pub buddy_apart : (i k : ℕ) → i < n → k < n → buddy s n i ≡ buddy s n k → i ≡ k
   buddy_apart i k a b same = turned_apart n (distance s n) some few i k a b (sym (buddy_is i) ∙ same ∙ buddy_is k)
 
-  pub keeps_if : (i j : ℕ) → j ≡ buddy s n i → is_keeper s n i j ≡ true
-  keeps_if i j same = (λ k. not (not_alone k) && (j == buddy s n i)) ∙ eq-eqb j (buddy s n i) same
-
   pub ward_of : (j : ℕ) → j < n → (w : ℕ) × (w < n) × (buddy s n w ≡ j)
   ward_of j below = let w = turned_to n (distance s n) some few j below in (w.0, w.1, buddy_is w.0 ∙ w.2)
 
@@ -94,9 +91,10 @@ module _ (s n : ℕ) where
           some_distance : 1 < n → 0 < distance s n
           some_distance many = omega arith
 
-  pub kept_by : (i j : ℕ) → is_keeper s n i j ≡ true → (n ≢ 1) × (j ≡ buddy s n i)
-  kept_by i j keeps = go (n == 1) refl keeps
-    where
-      go : (b : Bool) → (n == 1) ≡ b → (not b && (j == buddy s n i)) ≡ true → (n ≢ 1) × (j ≡ buddy s n i)
-      go true e k = absurd cc
-      go false e k = (eqb-false n 1 e, eqb-true j (buddy s n i) k)
+-- buddies at a separation are buddies
+pub are_buddies : (separation : ℕ) → AreBuddies (buddy separation)
+are_buddies s = record {
+  below = λ n i size below. buddy_below s n i size.0 below;
+  away = λ n i many below. buddy_away s n many i below;
+  apart = λ n i j many a b. buddy_apart s n many i j a b;
+}

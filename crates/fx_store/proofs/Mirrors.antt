@@ -1,16 +1,15 @@
--- The mirror meets the laws of redundancy.
+-- Where each place is kept by its buddy the laws of redundancy are met.
 use Rattle.std.proofs.Common.{◌≡◌, ◌≢◌, ◌⊎◌, inl, inr, refl, sym, ap, ◌∙◌, subst, ℕ, zero, suc, ◌+◌, ◌<◌, ◌≤◌, Bool, true, false, not, ◌&&◌, ◌==◌, cond, List, [], ◌∷◌, ◌++◌, length, Option, Some, None, arith}
 use Rattle.std.specs.Prelude.{if◌then◌else◌, nat_lt}
-use Rattle.std.specs.List.{flat_map}
-use Rattle.std.proofs.lemmas.Bool.{cases_lt, cases_eq, cases_Bool, and_parts, and_from, and_right, eq-eqb, lt-ltb, le-ltb, ltb-true, eqb-true, eqb-false, false_from_ne_true, true≢false}
 use Rattle.std.specs.Cmp.{both_ways}
+use Rattle.std.specs.List.{flat_map}
+use Rattle.std.proofs.lemmas.Bool.{cases_lt, cases_eq, cases_Bool, and_parts, and_from, and_right, eq-eqb, ne_eqb, lt-ltb, ltb-true, eqb-true, eqb-false, false_from_ne_true, true≢false}
 use Rattle.std.proofs.lemmas.List.{append-nil}
 use Rattle.std.proofs.lemmas.List.Concat.{flat_map-append}
 use Rattle.fx_base.specs.Sets.{those_below}
-use Rattle.fx_store.specs.Redundancy.{Redundancy, IsSize, IsPayload, HavePayloads, of_wards, share_of, helps, AreHelps, RebuildsCovered, RebuildsNothingElse, WardsAreKept, NoneKeepsItself, ArePlaces, CoversSmaller, CoversNone, FoldsWardsAlone, MeetsLaws}
-use Rattle.fx_store.specs.Mirror.{buddy, is_keeper, is_ward, each_below, some_bytes, mirror}
-use Rattle.fx_store.proofs.Buddies.{buddy_below, buddy_away, buddy_apart, keeps_if, kept_by, ward_of}
-use Rattle.fx_store.proofs.Uncovered.{leaves_all_uncovered}
+use Rattle.fx_store.specs.Redundancy.{Redundancy, IsSize, IsPayload, HavePayloads, each_below, of_wards, share_of, helps, AreHelps, RebuildsCovered, RebuildsNothingElse, WardsAreKept, NoneKeepsItself, ArePlaces, CoversSmaller, CoversNone, FoldsWardsAlone, MeetsLaws}
+use Rattle.fx_store.specs.Mirror.{AreBuddies, buddy, is_keeper, is_ward, some_bytes, kept_by_buddies, mirror}
+use Rattle.fx_store.proofs.Buddies.{are_buddies}
 
 -- ---- tests of all numbers below n
 
@@ -62,120 +61,134 @@ joined_alike test (suc n) a b same =
     last true h = ap (λ x. x ++ []) (h refl)
     last false h = refl
 
--- ---- what the buddy keeps and gives
-
-abbrev pub nonempty_is : (bytes : List ℕ) → 0 < length bytes → some_bytes bytes ≡ Some bytes
+pub nonempty_is : (bytes : List ℕ) → 0 < length bytes → some_bytes bytes ≡ Some bytes
 nonempty_is [] some = absurd (omega arith)
 nonempty_is (b ∷ bytes) some = refl
-
--- the share is the bytes of the one ward
-pub fold_is : (s n place w : ℕ) (bytes : ℕ → List ℕ) → 1 < n → w < n → buddy s n w ≡ place → (mirror s).fold n place bytes ≡ bytes w
-fold_is s n place w bytes many below same =
-    let ward : is_ward s n place w ≡ true = and_from (nat_lt w n) (is_keeper s n w place) (lt-ltb w n below) (keeps_if s n many w place (sym same)) in
-    let alone : those_below (is_ward s n place) n ≡ w ∷ [] =
-        one_below (is_ward s n place) n w below ward
-        (λ x less passes. buddy_apart s n many x w less below (sym (kept_by s n x place (and_parts (nat_lt x n) (is_keeper s n x place) passes).1).1 ∙ sym same)) in
-    ap (flat_map bytes) alone ∙ append-nil (bytes w)
-
--- alone, no bytes are kept
-pub fold_alone : (s place : ℕ) (bytes : ℕ → List ℕ) → (mirror s).fold 1 place bytes ≡ []
-fold_alone s place bytes = ap (flat_map bytes) (none_below (is_ward s 1 place) 1 (λ x below. and_right (nat_lt x 1) false refl))
-
--- whether a place is the ward
-pub ward_is : (s n place w j : ℕ) → 1 < n → w < n → buddy s n w ≡ place → is_ward s n place j ≡ (j == w)
-ward_is s n place w j many below same =
-    both_ways (is_ward s n place j) (j == w)
-    (λ passes.
-        let parts = and_parts (nat_lt j n) (is_keeper s n j place) passes in
-        eq-eqb j w (buddy_apart s n many j w (ltb-true j n parts.0) below (sym (kept_by s n j place parts.1).1 ∙ sym same)))
-    (λ is. subst (λ k. is_ward s n place k ≡ true) (sym (eqb-true j w is)) (and_from (nat_lt w n) (is_keeper s n w place) (lt-ltb w n below) (keeps_if s n many w place (sym same))))
-
-module _ (s n : ℕ) (size : IsSize n) where
-  -- the bytes of the one ward of a place
-  share_is : (i : ℕ) (bytes : ℕ → List ℕ) → 1 < n → i < n → share_of (mirror s) n (buddy s n i) bytes ≡ bytes i
-  share_is i bytes many below =
-      let ward : is_ward s n (buddy s n i) i ≡ true = ward_is s n (buddy s n i) i i many below refl ∙ eq-eqb i i refl in
-      fold_is s n (buddy s n i) i (of_wards (mirror s) n (buddy s n i) bytes) many below refl ∙ ap (λ b. if b then bytes i else []) ward
-
-  -- what the buddy gives, where it is there
-  help_is : (i : ℕ) (bytes : ℕ → List ℕ) (lost : ℕ → Bool) → 1 < n → i < n → lost (buddy s n i) ≡ false → helps (mirror s) n i bytes lost (buddy s n i) ≡ bytes i
-  help_is i bytes lost many below there =
-      let place : buddy s n i < n = buddy_below s n i size.0 below in
-      let keeps : is_keeper s n i (buddy s n i) ≡ true = keeps_if s n many i (buddy s n i) refl in
-      (λ k. if lt-ltb (buddy s n i) n place k && not (there k) then (if keeps k then share_of (mirror s) n (buddy s n i) bytes else []) else [])
-      ∙ share_is i bytes many below
-
-  -- and nothing where it is lost
-  no_help : (i : ℕ) (bytes : ℕ → List ℕ) (lost : ℕ → Bool) → lost (buddy s n i) ≡ true → helps (mirror s) n i bytes lost (buddy s n i) ≡ []
-  no_help i bytes lost gone = go (nat_lt (buddy s n i) n) (lost (buddy s n i)) gone
-    where
-      go : (a l : Bool) → l ≡ true → (if a && not l then (mirror s).help n (buddy s n i) i (bytes (buddy s n i)) (share_of (mirror s) n (buddy s n i) bytes) else []) ≡ []
-      go true true e = refl
-      go true false e = absurd cc
-      go false l e = refl
-
-  many_or_one : (1 < n) ⊎ (n ≡ 1)
-  many_or_one = elim (cases_lt 1 n) [ inl lt ↦ inl lt | inr le ↦ inr (omega (arith, size.0)) ]
-
-  -- alone, a place is its own buddy
-  own_buddy : (i : ℕ) → n ≡ 1 → i < n → buddy s n i ≡ i
-  own_buddy i one below = let z : 0 ≡ i = omega arith in ap (λ k. buddy s k i) one ∙ z
 
 other_there : (c d : Bool) → not (c && d) ≡ true → c ≡ true → d ≡ false
 other_there true false e f = refl
 other_there true true e f = absurd cc
 other_there false d e f = absurd cc
 
-pub mirror_rebuilds_covered : (s : ℕ) → RebuildsCovered (mirror s)
-mirror_rebuilds_covered s n i bytes lost given size below payloads covered gone are =
-    let there : lost (buddy s n i) ≡ false = other_there (lost i) (lost (buddy s n i)) (each_at n (λ x. not (lost x && lost (buddy s n x))) i covered below) gone in
-    elim (many_or_one s n size) [
-      | inl many ↦
-        let heard : given (buddy s n i) ≡ bytes i = are (buddy s n i) (buddy_below s n i size.0 below) ∙ help_is s n size i bytes lost many below there in
-        ap some_bytes heard ∙ nonempty_is (bytes i) (payloads i below).0
-      | inr one ↦ absurd (true≢false (sym gone ∙ ap lost (sym (own_buddy s n size i one below)) ∙ there))
-    ]
-
-pub mirror_rebuilds_nothing_else : (s : ℕ) → RebuildsNothingElse (mirror s)
-mirror_rebuilds_nothing_else s n i bytes lost given size below payloads gone are =
-    elim (cases_Bool (lost (buddy s n i))) [
-      | inl also ↦ inl (ap some_bytes (are (buddy s n i) (buddy_below s n i size.0 below) ∙ no_help s n size i bytes lost also))
-      | inr there ↦
-        elim (many_or_one s n size) [
-          | inl many ↦
-            let heard : given (buddy s n i) ≡ bytes i = are (buddy s n i) (buddy_below s n i size.0 below) ∙ help_is s n size i bytes lost many below there in
-            inr (ap some_bytes heard ∙ nonempty_is (bytes i) (payloads i below).0)
-          | inr one ↦ absurd (true≢false (sym gone ∙ ap lost (sym (own_buddy s n size i one below)) ∙ there))
-        ]
-    ]
-
-pub mirror_wards_are_kept : (s : ℕ) → WardsAreKept (mirror s)
-mirror_wards_are_kept s n i j size a b = sym (ap (λ t. t && is_keeper s n i j) (lt-ltb i n a))
-
-pub mirror_none_keeps_itself : (s : ℕ) → NoneKeepsItself (mirror s)
-mirror_none_keeps_itself s n i size below =
-    false_from_ne_true (is_keeper s n i i)
-    (λ keeps. let by = kept_by s n i i keeps in buddy_away s n (omega (arith, by.0, size.0)) i below (sym by.1))
-
-pub mirror_are_places : (s : ℕ) → ArePlaces (mirror s)
-mirror_are_places s n i j size below =
-    (
-      λ keeps. subst (λ k. k < n) (sym (kept_by s n i j keeps).1) (buddy_below s n i size.0 below),
-      λ ward. ltb-true j n (and_parts (nat_lt j n) (is_keeper s n j i) ward).0,
-    )
-
 smaller : (a b c d : Bool) → not (c && d) ≡ true → (a ≡ true → c ≡ true) → (b ≡ true → d ≡ true) → not (a && b) ≡ true
 smaller false b c d e f g = refl
 smaller true false c d e f g = refl
 smaller true true c d e f g = absurd (let both : (c && d) ≡ true = and_from c d (f refl) (g refl) in true≢false (sym e ∙ ap not both))
 
-pub mirror_covers_smaller : (s : ℕ) → CoversSmaller (mirror s)
-mirror_covers_smaller s n lost some size covered inside =
-    each_from n (λ i. not (some i && some (buddy s n i)))
-    (λ i below. smaller (some i) (some (buddy s n i)) (lost i) (lost (buddy s n i)) (each_at n (λ x. not (lost x && lost (buddy s n x))) i covered below) (inside i below) (inside (buddy s n i) (buddy_below s n i size.0 below)))
+many_or_one : (n : ℕ) → IsSize n → (1 < n) ⊎ (n ≡ 1)
+many_or_one n size = elim (cases_lt 1 n) [ inl lt ↦ inl lt | inr le ↦ inr (omega (arith, size.0)) ]
 
-pub mirror_covers_none : (s : ℕ) → CoversNone (mirror s)
-mirror_covers_none s n size = each_from n (λ i. true) (λ i below. refl)
+module _ (of : (n place : ℕ) → ℕ) where
+  kept_by : (n i j : ℕ) → is_keeper of n i j ≡ true → (n ≢ 1) × (j ≡ of n i)
+  kept_by n i j keeps = go (n == 1) refl keeps
+    where
+      go : (b : Bool) → (n == 1) ≡ b → (not b && (j == of n i)) ≡ true → (n ≢ 1) × (j ≡ of n i)
+      go true e k = absurd cc
+      go false e k = (eqb-false n 1 e, eqb-true j (of n i) k)
 
-pub mirror_folds_wards_alone : (s : ℕ) → FoldsWardsAlone (mirror s)
-mirror_folds_wards_alone s n i a b size below same = joined_alike (is_ward s n i) n a b same
+  keeps_if : (n i j : ℕ) → 1 < n → j ≡ of n i → is_keeper of n i j ≡ true
+  keeps_if n i j many same = (λ k. not (ne_eqb n 1 (λ e. omega (arith, e, many)) k) && (j == of n i)) ∙ eq-eqb j (of n i) same
+
+  keeps_as_ward : (n w j : ℕ) → 1 < n → w < n → of n w ≡ j → is_ward of n j w ≡ true
+  keeps_as_ward n w j many below same = and_from (nat_lt w n) (is_keeper of n w j) (lt-ltb w n below) (keeps_if n w j many (sym same))
+
+  -- alone, no bytes are kept
+  pub fold_alone : (place : ℕ) (bytes : ℕ → List ℕ) → (kept_by_buddies of).fold 1 place bytes ≡ []
+  fold_alone place bytes = ap (flat_map bytes) (none_below (is_ward of 1 place) 1 (λ x below. and_right (nat_lt x 1) false refl))
+
+  module _ (good : AreBuddies of) where
+    only_ward : (n w j x : ℕ) → 1 < n → w < n → of n w ≡ j → x < n → is_ward of n j x ≡ true → x ≡ w
+    only_ward n w j x many below same less ward =
+        good.apart n x w many less below (sym (kept_by n x j (and_parts (nat_lt x n) (is_keeper of n x j) ward).1).1 ∙ sym same)
+
+    -- the share is the bytes of the one ward
+    pub fold_is : (n j w : ℕ) (bytes : ℕ → List ℕ) → 1 < n → w < n → of n w ≡ j → (kept_by_buddies of).fold n j bytes ≡ bytes w
+    fold_is n j w bytes many below same =
+        ap (flat_map bytes) (one_below (is_ward of n j) n w below (keeps_as_ward n w j many below same) (λ x less ward. only_ward n w j x many below same less ward))
+        ∙ append-nil (bytes w)
+
+    -- whether a place is the ward
+    pub ward_is : (n j w x : ℕ) → 1 < n → w < n → of n w ≡ j → is_ward of n j x ≡ (x == w)
+    ward_is n j w x many below same =
+        both_ways (is_ward of n j x) (x == w)
+        (λ ward. eq-eqb x w (only_ward n w j x many below same (ltb-true x n (and_parts (nat_lt x n) (is_keeper of n x j) ward).0) ward))
+        (λ is. subst (λ k. is_ward of n j k ≡ true) (sym (eqb-true x w is)) (keeps_as_ward n w j many below same))
+
+    -- the bytes of a place are the share of its buddy
+    share_is : (n i : ℕ) (bytes : ℕ → List ℕ) → 1 < n → i < n → share_of (kept_by_buddies of) n (of n i) bytes ≡ bytes i
+    share_is n i bytes many below =
+        fold_is n (of n i) i (of_wards (kept_by_buddies of) n (of n i) bytes) many below refl
+        ∙ ap (λ b. if b then bytes i else []) (keeps_as_ward n i (of n i) many below refl)
+
+    -- what the buddy gives, where it is there
+    help_is : (n i : ℕ) (bytes : ℕ → List ℕ) (lost : ℕ → Bool) → IsSize n → 1 < n → i < n → lost (of n i) ≡ false → helps (kept_by_buddies of) n i bytes lost (of n i) ≡ bytes i
+    help_is n i bytes lost size many below there =
+        (λ k. if lt-ltb (of n i) n (good.below n i size below) k && not (there k) then (if keeps_if n i (of n i) many refl k then share_of (kept_by_buddies of) n (of n i) bytes else []) else [])
+        ∙ share_is n i bytes many below
+
+    -- and nothing where it is lost
+    no_help : (n i : ℕ) (bytes : ℕ → List ℕ) (lost : ℕ → Bool) → lost (of n i) ≡ true → helps (kept_by_buddies of) n i bytes lost (of n i) ≡ []
+    no_help n i bytes lost gone = go (nat_lt (of n i) n) (lost (of n i)) gone
+      where
+        go : (a l : Bool) → l ≡ true → (if a && not l then (kept_by_buddies of).help n (of n i) i (bytes (of n i)) (share_of (kept_by_buddies of) n (of n i) bytes) else []) ≡ []
+        go true true e = refl
+        go true false e = absurd cc
+        go false l e = refl
+
+    -- alone, a place is its own buddy
+    own_buddy : (n i : ℕ) → IsSize n → n ≡ 1 → i < n → of n i ≡ i
+    own_buddy n i size one below = let less : of n i < n = good.below n i size below in omega (arith, less, one, below)
+
+    -- from a buddy that is there comes the place as it was
+    made : (n i : ℕ) (bytes : ℕ → List ℕ) (lost : ℕ → Bool) (given : ℕ → List ℕ) → IsSize n → i < n → HavePayloads n bytes → lost i ≡ true → AreHelps (kept_by_buddies of) n i bytes lost given
+        → lost (of n i) ≡ false → (kept_by_buddies of).rebuild n i given ≡ Some (bytes i)
+    made n i bytes lost given size below payloads gone are there =
+        elim (many_or_one n size) [
+          | inl many ↦
+            let heard : given (of n i) ≡ bytes i = are (of n i) (good.below n i size below) ∙ help_is n i bytes lost size many below there in
+            ap some_bytes heard ∙ nonempty_is (bytes i) (payloads i below).0
+          | inr one ↦ absurd (true≢false (sym gone ∙ ap lost (sym (own_buddy n i size one below)) ∙ there))
+        ]
+
+    rebuilds_covered : RebuildsCovered (kept_by_buddies of)
+    rebuilds_covered n i bytes lost given size below payloads covered gone are =
+        made n i bytes lost given size below payloads gone are
+        (other_there (lost i) (lost (of n i)) (each_at n (λ x. not (lost x && lost (of n x))) i covered below) gone)
+
+    rebuilds_nothing_else : RebuildsNothingElse (kept_by_buddies of)
+    rebuilds_nothing_else n i bytes lost given size below payloads gone are =
+        elim (cases_Bool (lost (of n i))) [
+          | inl also ↦ inl (ap some_bytes (are (of n i) (good.below n i size below) ∙ no_help n i bytes lost also))
+          | inr there ↦ inr (made n i bytes lost given size below payloads gone are there)
+        ]
+
+    none_keeps_itself : NoneKeepsItself (kept_by_buddies of)
+    none_keeps_itself n i size below =
+        false_from_ne_true (is_keeper of n i i) (λ keeps. let by = kept_by n i i keeps in good.away n i (omega (arith, by.0, size.0)) below (sym by.1))
+
+    are_places : ArePlaces (kept_by_buddies of)
+    are_places n i j size below =
+        (
+          λ keeps. subst (λ k. k < n) (sym (kept_by n i j keeps).1) (good.below n i size below),
+          λ ward. ltb-true j n (and_parts (nat_lt j n) (is_keeper of n j i) ward).0,
+        )
+
+    covers_smaller : CoversSmaller (kept_by_buddies of)
+    covers_smaller n lost some size covered inside =
+        each_from n (λ i. not (some i && some (of n i)))
+        (λ i below. smaller (some i) (some (of n i)) (lost i) (lost (of n i)) (each_at n (λ x. not (lost x && lost (of n x))) i covered below) (inside i below) (inside (of n i) (good.below n i size below)))
+
+    pub buddies_meet_laws : MeetsLaws (kept_by_buddies of)
+    buddies_meet_laws = record {
+      rebuilds_covered = rebuilds_covered;
+      rebuilds_nothing_else = rebuilds_nothing_else;
+      wards_are_kept = λ n i j size a b. sym (ap (λ t. t && is_keeper of n i j) (lt-ltb i n a));
+      none_keeps_itself = none_keeps_itself;
+      are_places = are_places;
+      covers_smaller = covers_smaller;
+      covers_none = λ n size. each_from n (λ i. true) (λ i below. refl);
+      folds_wards_alone = λ n i a b size below same. joined_alike (is_ward of n i) n a b same;
+    }
+
+pub mirror_meets_laws : (separation : ℕ) → MeetsLaws (mirror separation)
+mirror_meets_laws separation = buddies_meet_laws (buddy separation) (are_buddies separation)

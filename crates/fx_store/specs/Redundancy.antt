@@ -1,5 +1,5 @@
 -- Redundancy: who keeps a share of whose bytes, and what can be made again when places are lost.
-use Rattle.std.specs.Prelude.{◌≡◌, ◌⊎◌, ◌≤◌, ◌<◌, ℕ, ◌^◌, Bool, true, false, not, ◌&&◌, if◌then◌else◌, ◌==◌, nat_lt, List, [], ◌∷◌, length, Option, Some, None}
+use Rattle.std.specs.Prelude.{◌≡◌, ◌⊎◌, ◌≤◌, ◌<◌, ℕ, zero, suc, ◌^◌, Bool, true, false, not, ◌&&◌, if◌then◌else◌, ◌==◌, nat_lt, List, [], ◌∷◌, length, Option, Some, None}
 use Rattle.std.specs.Ordering.{nat_cmp}
 use Rattle.std.specs.FinSet.{FinSet, contains}
 
@@ -9,7 +9,7 @@ pub record Redundancy : Type 0 where
   pub keepers : (n place : ℕ) → ℕ → Bool
   -- among n places: whose keeper the place is
   pub wards : (n place : ℕ) → ℕ → Bool
-  -- among n places: whether what the places of the set had can be made again without them
+  -- among n places: sets of places whose bytes can surely be made again without them
   pub covers : (n : ℕ) → (ℕ → Bool) → Bool
   -- the share that a place keeps, from the bytes by place
   pub fold : (n place : ℕ) → (ℕ → List ℕ) → List ℕ
@@ -18,7 +18,12 @@ pub record Redundancy : Type 0 where
   -- the bytes of a place, made again from the helps by place
   pub rebuild : (n place : ℕ) → (ℕ → List ℕ) → Option (List ℕ)
 
--- so many places there are
+-- each number below n passes the test
+abbrev pub each_below : ℕ → (ℕ → Bool) → Bool
+each_below zero test = true
+each_below (suc n) test = each_below n test && test n
+
+-- so many places there may be
 abbrev pub IsSize : ℕ → Type 0
 IsSize n = (0 < n) × (n ≤ 32)
 
@@ -91,7 +96,7 @@ FoldsWardsAlone r =
 abbrev pub LeavesAllUncovered : Redundancy → Type 0
 LeavesAllUncovered r = (n : ℕ) (lost : ℕ → Bool) → IsSize n → ((j : ℕ) → j < n → lost j ≡ true) → r.covers n lost ≡ false
 
--- all laws of redundancy
+-- the laws that each way of redundancy keeps; from the first follows that all places are never covered
 pub record MeetsLaws (r : Redundancy) : Type 0 where
   pub rebuilds_covered : RebuildsCovered r
   pub rebuilds_nothing_else : RebuildsNothingElse r
@@ -101,7 +106,6 @@ pub record MeetsLaws (r : Redundancy) : Type 0 where
   pub covers_smaller : CoversSmaller r
   pub covers_none : CoversNone r
   pub folds_wards_alone : FoldsWardsAlone r
-  pub leaves_all_uncovered : LeavesAllUncovered r
 
 -- ---- sets and bytes by place, as lists and sets have them
 

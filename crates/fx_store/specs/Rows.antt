@@ -5,7 +5,7 @@ use Rattle.fx_base.specs.declared.names.Stamp.{Stamp}
 use Rattle.fx_store.specs.Mirror.{mirror, buddy}
 use Rattle.fx_store.specs.Packed.{Run, Section, text_bytes, is_text, runs_of, text_in, elements_in, run_in, runs_in, section_in, sections_in}
 use Rattle.fx_store.specs.Redundancy.{bytes_at}
-use Rattle.fx_store.specs.Store.{counted, newest, newest_stamp}
+use Rattle.fx_store.specs.Store.{counted, newest}
 
 -- ---- packed snapshots
 
@@ -123,6 +123,19 @@ covers_0_1 = refl
 
 covers_not_0_2 : (mirror 2).covers 4 (λ j. j == 0 || j == 2) ≡ false
 covers_not_0_2 = refl
+
+-- at separation 1 keepers and wards differ: place 0 is kept by place 1, and keeps place 3
+keepers_at_1 : those_below ((mirror 1).keepers 4 0) 4 ≡ 1 ∷ []
+unfolding those_below
+keepers_at_1 = refl
+
+wards_at_1 : those_below ((mirror 1).wards 4 0) 4 ≡ 3 ∷ []
+unfolding those_below
+wards_at_1 = refl
+
+-- at separation 3 among four places the buddy of 0 is 3
+buddy_at_3 : buddy 3 4 0 ≡ 3
+buddy_at_3 = refl
 
 -- a separation past the number of places begins anew: 4 is as 1 among four places
 buddies_at_4 : buddy 4 4 0 ∷ buddy 4 4 3 ∷ [] ≡ 1 ∷ 0 ∷ []
