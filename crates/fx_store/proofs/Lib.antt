@@ -2,4 +2,7 @@ pub mod Overlays
 pub mod Uncovered
 pub mod Buddies
 pub mod Mirrors
+pub mod Numbers
+pub mod Orders
+pub mod Texts
 mod StoreRows

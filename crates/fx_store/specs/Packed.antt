@@ -19,7 +19,7 @@ pub record Section : Type 0 where
   pub member : ℕ
   pub runs : List Run
 
--- ---- the bytes of the parts: all numbers are big-endian
+-- ---- the bytes of the parts: of a number the highest byte comes first
 
 -- eight bytes, in two's complement
 abbrev pub element_bytes : ℤ → List ℕ
@@ -52,7 +52,7 @@ run_end run = run.start + length run.elements
 abbrev pub is_run : Run → Bool
 is_run run = nat_lt 0 (length run.elements) && (nat_le (run_end run) 256 && list_all is_element run.elements)
 
--- runs rise, and between two of them at least one index is absent
+-- runs rise, and an index is left out between one and the next
 abbrev pub are_apart : List Run → Bool
 are_apart [] = true
 are_apart (run ∷ []) = true
@@ -110,6 +110,7 @@ abbrev pub runs_of : List (ℕ × ℤ) → List Run
 runs_of [] = []
 runs_of (entry ∷ entries) = put_first entry (runs_of entries)
 
+-- a member with the longest runs of its elements
 abbrev pub section_of : MemberId × Sparse → Section
 section_of entry = record { member = entry.0.0; runs = runs_of (finite.entries entry.1) }
 
@@ -130,21 +131,24 @@ has_spelling snapshot =
 
 -- ---- the reading of bytes, from the left: what is read, and the bytes behind it
 
+-- read on behind what was read
 infixl 10 ◌>>=◌
 abbrev pub ◌>>=◌ : {A B : Type 0} → Option A → (A → Option B) → Option B
 None >>= f = None
 (Some x) >>= f = f x
 
--- go on only where the test holds
-abbrev pub given : {A : Type 0} → Bool → Option A → Option A
-given test next = if test then next else None
+-- what is read, where the test holds
+abbrev pub only_if : {A : Type 0} → Bool → Option A → Option A
+only_if test read = if test then read else None
 
+-- one byte
 abbrev pub byte_in : List ℕ → Option (ℕ × List ℕ)
 byte_in [] = None
 byte_in (byte ∷ bytes) = Some (byte, bytes)
 
+-- the number of so many bits
 abbrev pub number_in : Width → List ℕ → Option (ℕ × List ℕ)
-number_in w bytes = given (nat_le (byte_len w) (length bytes)) (Some (from_be_bytes w (take (byte_len w) bytes), drop (byte_len w) bytes))
+number_in w bytes = only_if (nat_le (byte_len w) (length bytes)) (Some (from_be_bytes w (take (byte_len w) bytes), drop (byte_len w) bytes))
 
 -- so many elements
 unfoldable pub elements_in : ℕ → List ℕ → Option (List ℤ × List ℕ)
@@ -159,7 +163,7 @@ unfoldable pub run_in : ℕ → List ℕ → Option (Run × List ℕ)
 run_in least bytes = do
   start ← number_in w16 bytes
   count ← number_in w16 start.1
-  elements ← given (nat_le least start.0 && (nat_lt 0 count.0 && nat_le (start.0 + count.0) 256)) (elements_in count.0 count.1)
+  elements ← only_if (nat_le least start.0 && (nat_lt 0 count.0 && nat_le (start.0 + count.0) 256)) (elements_in count.0 count.1)
   Some (record { start = start.0; elements = elements.0 }, elements.1)
 
 -- so many runs, the first of which begins at `least` or later
@@ -175,7 +179,7 @@ unfoldable pub section_in : ℕ → List ℕ → Option (Section × List ℕ)
 section_in least bytes = do
   member ← byte_in bytes
   count ← number_in w16 member.1
-  runs ← given (nat_le least member.0 && nat_lt member.0 8) (runs_in count.0 0 count.1)
+  runs ← only_if (nat_le least member.0 && nat_lt member.0 8) (runs_in count.0 0 count.1)
   Some (record { member = member.0; runs = runs.0 }, runs.1)
 
 -- so many members, the first of which has the number `least` or more
@@ -193,7 +197,7 @@ text_in bytes = do
   second ← byte_in first.1
   version ← byte_in second.1
   count ← byte_in version.1
-  given (first.0 == 70 && (second.0 == 88 && (version.0 == 1 && nat_le count.0 8))) (sections_in count.0 0 count.1)
+  only_if (first.0 == 70 && (second.0 == 88 && (version.0 == 1 && nat_le count.0 8))) (sections_in count.0 0 count.1)
 
 -- the snapshot at the front of the bytes, and how many bytes it takes
 abbrev pub snapshot_in : List ℕ → Option (Snapshot × ℕ)
