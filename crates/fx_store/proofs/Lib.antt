@@ -5,4 +5,6 @@ pub mod Mirrors
 pub mod Numbers
 pub mod Orders
 pub mod Texts
+pub mod Meanings
+pub mod Spellings
 mod StoreRows
