@@ -18,7 +18,7 @@ use Rattle.fx_store.proofs.Orders.{GoodRun, RunsFrom, GoodSection, SectionsFrom}
 
 -- ---- keys in order
 
-told : (b : Bool) → T b → b ≡ true
+pub told : (b : Bool) → T b → b ≡ true
 told true h = refl
 told false h = absurd h
 
@@ -79,7 +79,7 @@ below_members k [] from = refl
 below_members k (e ∷ es) from =
     and_from (is_lt (nat_cmp k.0 e.0.0)) (below_all by_number k es) (nat_less k.0 e.0.0 (omega (arith, from.0))) (below_members k es (members_weaker (e.0.0 + 1) (k.0 + 1) es (omega (arith, from.0)) from.1))
 
-sorted_members : {X : Type 0} (least : ℕ) (es : List (MemberId × X)) → MembersFrom least es → is_sorted by_number es ≡ true
+pub sorted_members : {X : Type 0} (least : ℕ) (es : List (MemberId × X)) → MembersFrom least es → is_sorted by_number es ≡ true
 sorted_members least [] from = refl
 sorted_members least (e ∷ es) from = and_from (below_all by_number e.0 es) (is_sorted by_number es) (below_members e.0 es from.1) (sorted_members (e.0.0 + 1) es from.1)
 
@@ -216,7 +216,7 @@ entries_good least (run ∷ runs) from = entries_of_good_run run.start run.eleme
 pub from_sorted_again : {K X : Type 0} {R : K → K → Ordering} (m : FinMap R X) → from_sorted (entries m) ≡ m
 from_sorted_again {R = R} m = same_entries_map (from_sorted (entries m)) m (entries-from_sorted R (entries m) (entries_sorted m))
 
-members_of_sections : (least : ℕ) (sections : List Section) → SectionsFrom least sections → MembersFrom least (map meaning_of sections)
+pub members_of_sections : (least : ℕ) (sections : List Section) → SectionsFrom least sections → MembersFrom least (map meaning_of sections)
 members_of_sections least [] from = tt
 members_of_sections least (section ∷ sections) from = (from.0, members_of_sections (section.member + 1) sections from.2)
 

@@ -1,0 +1,9 @@
+//! Snapshots as bytes, each in its one spelling.
+#![tactic(auto)]
+
+mod fields;
+mod reading;
+mod writing;
+
+pub use reading::{unpack, Unpacked};
+pub use writing::pack;
