@@ -7,4 +7,5 @@ pub mod Orders
 pub mod Texts
 pub mod Meanings
 pub mod Spellings
+pub mod Sounds
 mod StoreRows
