@@ -3,5 +3,6 @@
 #![tactic(auto)]
 
 mod answers;
+pub mod laws;
 
 pub use answers::{CommitEnd, DeleteEnd, FindEnd, StoreEnd};
