@@ -32,7 +32,7 @@ pub trait Policy: Copy {
         requires { IsSize n }
         ensures { result ≡ (redundancy self.now).covers n (set.contains lost) };
 
-    /// The share that the place keeps, from the bytes of its wards. A ward that `parts` lacks counts with empty bytes, and a
+    /// The share that the place keeps, from the bytes of its wards. The bytes of a ward that `parts` doesn't have are empty, and a
     /// place that is no ward is passed over.
     fn fold(&self, alloc: Global, n: u8, place: u8, parts: &Shares) -> Result<Bytes, NoMemory>
         requires size { IsSize n }

@@ -8,4 +8,5 @@ pub mod Texts
 pub mod Meanings
 pub mod Spellings
 pub mod Sounds
+pub mod Strengths
 mod StoreRows

@@ -3,16 +3,16 @@ use Rattle.std.proofs.Common.{◌≡◌, refl, sym, ap, ◌∙◌, ℕ, ◌<◌,
 use Rattle.std.specs.Prelude.{if◌then◌else◌, nat_lt}
 use Rattle.fx_store.specs.Redundancy.{Redundancy, IsSize, RebuildsCovered, LeavesAllUncovered, AreHelps, helps, share_of}
 
-nobody : (below lost : Bool) (bytes : List ℕ) → lost ≡ true → (if below && not lost then bytes else []) ≡ []
+pub nobody : (below lost : Bool) (bytes : List ℕ) → lost ≡ true → (if below && not lost then bytes else []) ≡ []
 nobody true true bytes h = refl
 nobody true false bytes h = absurd cc
 nobody false lost bytes h = refl
 
-abbrev nothing : ℕ → List ℕ
+abbrev pub nothing : ℕ → List ℕ
 nothing j = []
 
 -- bytes by place that are one byte each
-abbrev each : ℕ → ℕ → List ℕ
+abbrev pub each : ℕ → ℕ → List ℕ
 each b j = b ∷ []
 
 two_at_once : {o : Option (List ℕ)} → o ≡ Some (0 ∷ []) → o ≡ Some (1 ∷ []) → ⊥

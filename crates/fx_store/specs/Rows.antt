@@ -1,10 +1,10 @@
 -- Worked rows: what the definitions give, by computation.
-use Rattle.std.specs.Prelude.{◌≡◌, refl, ℕ, pos, negsuc, ◌++◌, Bool, true, false, ◌||◌, ◌==◌, List, [], ◌∷◌, take, replicate, Option, Some, None}
+use Rattle.std.specs.Prelude.{◌≡◌, refl, ℕ, pos, negsuc, ◌+◌, ◌++◌, map, Bool, true, false, ◌||◌, ◌==◌, List, [], ◌∷◌, take, replicate, Option, Some, None}
 use Rattle.fx_base.specs.Sets.{those_below}
 use Rattle.fx_base.specs.declared.names.Stamp.{Stamp}
 use Rattle.fx_store.specs.Mirror.{mirror, buddy}
-use Rattle.fx_store.specs.Packed.{Run, Section, text_bytes, is_text, runs_of, text_in, elements_in, run_in, runs_in, section_in, sections_in}
-use Rattle.fx_store.specs.Redundancy.{bytes_at}
+use Rattle.fx_store.specs.Packed.{Run, Section, text_bytes, is_text, is_element, runs_of, text_in, elements_in, run_in, runs_in, section_in, sections_in}
+use Rattle.fx_store.specs.Redundancy.{bytes_at, helps, of_wards, share_of}
 use Rattle.fx_store.specs.Store.{counted, newest}
 
 -- ---- packed snapshots
@@ -32,10 +32,69 @@ cut_short : text_in (take 18 one_element_bytes) ≡ None
 unfolding text_in sections_in section_in runs_in run_in elements_in
 cut_short = refl
 
+-- nor with other letters
+other_letters : text_in (88 ∷ 70 ∷ 1 ∷ 0 ∷ []) ≡ None
+unfolding text_in sections_in section_in runs_in run_in elements_in
+other_letters = refl
+
 -- nor with another version
 other_version : text_in (70 ∷ 88 ∷ 2 ∷ 1 ∷ 0 ∷ 0 ∷ 1 ∷ 0 ∷ 1 ∷ 0 ∷ 1 ∷ 0 ∷ 0 ∷ 0 ∷ 0 ∷ 0 ∷ 0 ∷ 0 ∷ 9 ∷ []) ≡ None
 unfolding text_in sections_in section_in runs_in run_in elements_in
 other_version = refl
+
+-- a snapshot of no member has four bytes
+no_member_is_spelled : text_bytes [] ≡ 70 ∷ 88 ∷ 1 ∷ 0 ∷ []
+no_member_is_spelled = refl
+
+no_member_is_read : text_in (70 ∷ 88 ∷ 1 ∷ 0 ∷ 5 ∷ []) ≡ Some ([], 5 ∷ [])
+unfolding text_in sections_in section_in runs_in run_in elements_in
+no_member_is_read = refl
+
+-- member 7 is the last
+member_7_is_read : text_in (70 ∷ 88 ∷ 1 ∷ 1 ∷ 7 ∷ 0 ∷ 0 ∷ []) ≡ Some (record { member = 7; runs = [] } ∷ [], [])
+unfolding text_in sections_in section_in runs_in run_in elements_in
+member_7_is_read = refl
+
+member_8_is_not_read : text_in (70 ∷ 88 ∷ 1 ∷ 1 ∷ 8 ∷ 0 ∷ 0 ∷ []) ≡ None
+unfolding text_in sections_in section_in runs_in run_in elements_in
+member_8_is_not_read = refl
+
+member_8_is_no_text : is_text (record { member = 8; runs = [] } ∷ []) ≡ false
+member_8_is_no_text = refl
+
+-- no member stands twice
+twice_is_not_read : text_in (70 ∷ 88 ∷ 1 ∷ 2 ∷ 1 ∷ 0 ∷ 0 ∷ 1 ∷ 0 ∷ 0 ∷ []) ≡ None
+unfolding text_in sections_in section_in runs_in run_in elements_in
+twice_is_not_read = refl
+
+twice_is_no_text : is_text (record { member = 1; runs = [] } ∷ record { member = 1; runs = [] } ∷ []) ≡ false
+twice_is_no_text = refl
+
+-- the greatest and the lowest element
+abbrev bounds : List Section
+bounds = record { member = 0; runs = record { start = 0; elements = pos 9223372036854775807 ∷ negsuc 9223372036854775807 ∷ [] } ∷ [] } ∷ []
+
+bounds_are_in_order : is_text bounds ≡ true
+bounds_are_in_order = refl
+
+bounds_are_spelled :
+    text_bytes bounds
+    ≡ (70 ∷ 88 ∷ 1 ∷ 1 ∷ 0 ∷ 0 ∷ 1 ∷ 0 ∷ 0 ∷ 0 ∷ 2 ∷ 127 ∷ []) ++ (replicate 7 255 ++ (128 ∷ replicate 7 0))
+bounds_are_spelled = refl
+
+bounds_are_read : text_in (text_bytes bounds) ≡ Some (bounds, [])
+unfolding text_in sections_in section_in runs_in run_in elements_in
+bounds_are_read = refl
+
+past_the_greatest : is_element (pos 9223372036854775808) ≡ false
+past_the_greatest = refl
+
+past_the_lowest : is_element (negsuc 9223372036854775808) ≡ false
+past_the_lowest = refl
+
+-- 256 elements from index 0 on: the length is 0100
+all_indices : take 11 (text_bytes (record { member = 0; runs = record { start = 0; elements = replicate 256 (pos 5) } ∷ [] } ∷ [])) ≡ 70 ∷ 88 ∷ 1 ∷ 1 ∷ 0 ∷ 0 ∷ 1 ∷ 0 ∷ 0 ∷ 1 ∷ 0 ∷ []
+all_indices = refl
 
 -- members 3 and 5: the first has -1 and -2 at 254 and 255, and the second was stored with no index
 abbrev pub two_members : List Section
@@ -68,6 +127,23 @@ side_by_side_is_not_read : text_in (text_bytes side_by_side) ≡ None
 unfolding text_in sections_in section_in runs_in run_in elements_in
 side_by_side_is_not_read = refl
 
+-- nor are runs that fall, or reach into each other
+abbrev runs_at : (first second : ℕ) → List Section
+runs_at first second =
+    record { member = 0; runs = record { start = first; elements = pos 9 ∷ pos 9 ∷ [] } ∷ record { start = second; elements = pos 9 ∷ [] } ∷ [] } ∷ []
+
+runs_fall : text_in (text_bytes (runs_at 4 1)) ≡ None
+unfolding text_in sections_in section_in runs_in run_in elements_in
+runs_fall = refl
+
+runs_overlap : text_in (text_bytes (runs_at 4 5)) ≡ None
+unfolding text_in sections_in section_in runs_in run_in elements_in
+runs_overlap = refl
+
+runs_rise : text_in (text_bytes (runs_at 4 7)) ≡ Some (runs_at 4 7, [])
+unfolding text_in sections_in section_in runs_in run_in elements_in
+runs_rise = refl
+
 -- nor are members that don't rise
 abbrev pub falling : List Section
 falling = record { member = 1; runs = [] } ∷ record { member = 0; runs = [] } ∷ []
@@ -84,8 +160,15 @@ no_element : text_in (70 ∷ 88 ∷ 1 ∷ 1 ∷ 0 ∷ 0 ∷ 1 ∷ 0 ∷ 1 ∷ 0 
 unfolding text_in sections_in section_in runs_in run_in elements_in
 no_element = refl
 
-index_256 : is_text (record { member = 0; runs = record { start = 255; elements = pos 1 ∷ pos 2 ∷ [] } ∷ [] } ∷ []) ≡ false
-index_256 = refl
+abbrev to_256 : List Section
+to_256 = record { member = 0; runs = record { start = 255; elements = pos 1 ∷ pos 2 ∷ [] } ∷ [] } ∷ []
+
+index_256_is_no_text : is_text to_256 ≡ false
+index_256_is_no_text = refl
+
+index_256_is_not_read : text_in (text_bytes to_256) ≡ None
+unfolding text_in sections_in section_in runs_in run_in elements_in
+index_256_is_not_read = refl
 
 -- eight members are claimed, and a run of 65,535 elements
 claimed_only : text_in (70 ∷ 88 ∷ 1 ∷ 8 ∷ 0 ∷ 255 ∷ 255 ∷ 0 ∷ 0 ∷ 255 ∷ 255 ∷ []) ≡ None
@@ -165,3 +248,19 @@ made_again = refl
 
 not_made_again : (mirror 2).rebuild 4 0 (bytes_at ((1, 1 ∷ []) ∷ [])) ≡ None
 not_made_again = refl
+
+-- the helps for place 0, when places 0 and 1 are lost: its keeper gives its bytes, and place 3, which keeps place 1, gives nothing
+abbrev each_own : ℕ → List ℕ
+each_own j = (j + 1) ∷ []
+
+helps_for_0 : map (helps (mirror 2) 4 0 each_own (λ j. j == 0 || j == 1)) (0 ∷ 1 ∷ 2 ∷ 3 ∷ []) ≡ [] ∷ [] ∷ (1 ∷ []) ∷ [] ∷ []
+unfolding those_below
+helps_for_0 = refl
+
+-- of the bytes that come, those of the ward come through
+wards_come_through : map (of_wards (mirror 2) 4 2 each_own) (0 ∷ 1 ∷ 2 ∷ 3 ∷ []) ≡ (1 ∷ []) ∷ [] ∷ [] ∷ [] ∷ []
+wards_come_through = refl
+
+shares : map (λ place. share_of (mirror 1) 4 place each_own) (0 ∷ 1 ∷ 2 ∷ 3 ∷ []) ≡ (4 ∷ []) ∷ (1 ∷ []) ∷ (2 ∷ []) ∷ (3 ∷ []) ∷ []
+unfolding those_below
+shares = refl

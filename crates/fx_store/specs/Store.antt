@@ -41,7 +41,7 @@ later stamp n = record { 0 = stamp.0 +ℤ pos n }
 abbrev pub earlier : Stamp → ℕ → Stamp
 earlier stamp n = record { 0 = stamp.0 -ℤ pos n }
 
--- the first stamp that no closed snapshot has had: the next one less those that are tentative
+-- the stamp of the first snapshot that isn't closed yet, if there is one: the next stamp less the number of tentative snapshots
 abbrev pub free_stamp : Store → Stamp
 free_stamp s = earlier s.next (length s.tentative)
 
@@ -138,7 +138,7 @@ latest s = newest_stamp s.kept
 
 -- ---- what is so of each store that the calls lead to
 
--- each stamp is below the one behind it, and the last is below the bound
+-- each stamp is below the next one of the list, and the last is below the bound
 abbrev pub RiseBelow : List Stamp → Stamp → Type 0
 RiseBelow [] bound = Unit {0}
 RiseBelow (a ∷ []) bound = a.0 <ℤ bound.0
@@ -149,6 +149,7 @@ abbrev pub counted : Stamp → ℕ → List Stamp
 counted stamp zero = []
 counted stamp (suc n) = stamp ∷ counted (later stamp 1) n
 
+-- so many are kept and so many wait, and their stamps follow each other as they were given
 pub record IsSound (s : Store) : Type 0 where
   -- never more than depth + 1 snapshots are kept
   pub few : length s.kept ≤ s.depth + 1
