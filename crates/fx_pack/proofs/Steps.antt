@@ -14,18 +14,6 @@ use Rattle.fx_pack.specs.declared.fields.Fault.{Fault}
 use Rattle.fx_pack.specs.declared.fields.Fault.TheVariants.{NotOne, NoMemory}
 use Rattle.fx_pack.specs.Reading.{Fails, element_in, elements_put, run_put, runs_put, member_put, members_put}
 
--- ---- indices stay below 256
-
-pub none_above : HasIndicesBelow256 empty
-none_above index element is = absurd (none-some element (sym (get-empty nat_cmp index) ∙ is))
-
-pub insert_below : (m : Sparse) (index : ℕ) (x : ℤ) → index < 256 → HasIndicesBelow256 m → HasIndicesBelow256 (insert m index x)
-insert_below m index x below old q element is = go (eq_by_cmp nat_cmp q index) refl (sym (get-insert nat_cmp_total m index x q) ∙ is)
-  where
-    go : (b : Bool) → eq_by_cmp nat_cmp q index ≡ b → cond b (Some x) (get m q) ≡ Some element → q < 256
-    go true same found = let e : q ≡ index = eqb-true q index (sym (unsigned_tied q index) ∙ same) in omega (arith, e, below)
-    go false other found = old q element found
-
 -- ---- a step, and a step that fails
 
 fails_then : {A B : Type 0} (e : Fault) (o : Option A) (f : A → Option B) → Fails e o → Fails e (o >>= f)

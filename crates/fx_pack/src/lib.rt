@@ -7,3 +7,6 @@ mod writing;
 
 pub use reading::{unpack, Unpacked};
 pub use writing::pack;
+
+#[cfg(test)]
+mod tests;

@@ -3,7 +3,7 @@ ghost use Rattle.std.specs.FinMap as map;
 ghost use Rattle.fx_base.specs.Bounds.{HasIndicesBelow256};
 ghost use Rattle.fx_store.specs.Packed.{snapshot_in};
 ghost use Rattle.fx_pack.specs.Reading.{Gives, Puts, elements_put, run_put, runs_put, member_put, members_put, head_in, snapshot_put};
-ghost use Rattle.fx_pack.specs.Answers.{IsReading};
+ghost use Rattle.fx_pack.specs.Answers.{IsReading, IsFront};
 
 use crate::fields::{read_byte, read_i64, read_u16, Fault};
 use fx_base::{MemberId, NoMemory, Snapshot, Sparse};
@@ -21,7 +21,8 @@ pub enum Unpacked {
 /// Reads the snapshot that is packed at the front of the bytes. No length that they claim is believed: what is read is there, and
 /// memory is taken for what was read alone.
 pub fn unpack(alloc: Global, bytes: &[u8]) -> Result<Unpacked, NoMemory>
-    ensures { IfOk result (IsReading (snapshot_in bytes.now)) }
+    ensures reading { IfOk result (IsReading (snapshot_in bytes.now)) }
+    ensures front { IfOk result (IsFront bytes.now) }
 {
     match read_snapshot(alloc, bytes) {
         Ok((snapshot, rest)) => Ok(Unpacked::Read(snapshot, bytes.len() - rest.len())),

@@ -10,3 +10,6 @@ pub use fx_base::Snapshot;
 pub use fx_store::{CommitEnd, DeleteEnd, FindEnd, StoreEnd};
 pub use kept::{Kept, KeptList};
 pub use store::GroupStore;
+
+#[cfg(test)]
+mod tests;

@@ -1,3 +1,4 @@
+pub mod Indices
 pub mod Overlays
 pub mod Uncovered
 pub mod Buddies

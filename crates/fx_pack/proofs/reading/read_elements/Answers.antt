@@ -6,7 +6,8 @@ use Rattle.std.proofs.lemmas.Int.{to_z-of_z}
 use Rattle.std.proofs.lemmas.Result.{err_from_is_err_and}
 use Rattle.fx_base.specs.Bounds.{HasIndicesBelow256}
 use Rattle.fx_pack.specs.Reading.{elements_put}
-use Rattle.fx_pack.proofs.Steps.{element_step, element_fails, elements_end, insert_below}
+use Rattle.fx_pack.proofs.Steps.{element_step, element_fails, elements_end}
+use Rattle.fx_store.proofs.Indices.{insert_below}
 use Rattle.fx_pack.proofs.reading.read_elements.Goals as goal
 
 pub returns-in_err-element-clause-read : goal.returns-in_err-element-clause-read

@@ -3,7 +3,8 @@ use Rattle.std.specs.FinMap.{empty}
 use Rattle.std.proofs.lemmas.Result.{err_from_is_err_and}
 use Rattle.fx_base.specs.Bounds.{HasIndicesBelow256}
 use Rattle.fx_pack.specs.Reading.{runs_put}
-use Rattle.fx_pack.proofs.Steps.{run_step, run_fails, runs_end, none_above}
+use Rattle.fx_pack.proofs.Steps.{run_step, run_fails, runs_end}
+use Rattle.fx_store.proofs.Indices.{none_above}
 use Rattle.fx_pack.proofs.reading.read_runs.Goals as goal
 
 pub loop-init : goal.loop-init
