@@ -10,4 +10,5 @@ pub mod Meanings
 pub mod Spellings
 pub mod Sounds
 pub mod Strengths
+pub mod Packables
 mod StoreRows

@@ -4,6 +4,7 @@ ghost use Rattle.fx_base.specs.declared.names.MemberId.{MemberId};
 ghost use Rattle.fx_base.specs.declared.names.Stamp.{Stamp};
 ghost use Rattle.fx_base.specs.declared.snapshot.Snapshot.{Snapshot};
 ghost use Rattle.fx_base.specs.declared.sparse.Sparse.{Sparse};
+ghost use Rattle.fx_store.specs.Packable.{IsPackable, have_spellings, elements_fit};
 ghost use Rattle.fx_store.specs.Packed.{Spells, has_spelling, spelling_of, snapshot_in};
 ghost use Rattle.fx_store.specs.Redundancy.{Redundancy, RebuildsCovered, LeavesAllUncovered, IsPayload};
 ghost use Rattle.fx_store.specs.Store.{Store, Stamped, IsSound, RiseBelow, new_store, attaching, storing, committing, closing, promoting, discarding, deleting, free_stamp, stamps_of};
@@ -20,6 +21,19 @@ pub fn stores_are_sound()
         → RiseBelow (stamps_of entries) next → IsSound s → IsSound (promoting entries next s) }
     ensures discarded { (s : Store) → IsSound s → IsSound (discarding s) }
     ensures deleted { (s : Store) (stamp : Stamp) → IsSound s → IsSound (deleting stamp s) }
+{}
+
+/// All snapshots of a store have spellings as it is made, and each call leaves it so, where the member that is stored is from 0 to 7,
+/// the elements of the piece fit, and the snapshots that are promoted have spellings.
+pub fn stores_are_packable()
+    ensures made { (start : Stamp) (depth : ℕ) → IsPackable (new_store start depth) }
+    ensures attached { (s : Store) (m : MemberId) → IsPackable s → IsPackable (attaching m s) }
+    ensures stored { (s : Store) (m : MemberId) (piece : Sparse) → m.0 < 8 → elements_fit piece ≡ true → IsPackable s → IsPackable (storing m piece s) }
+    ensures committed { (s : Store) → IsPackable s → IsPackable (committing s) }
+    ensures closed { (s : Store) → IsPackable s → IsPackable (closing s) }
+    ensures promoted { (s : Store) (entries : List Stamped) (next : Stamp) → have_spellings entries ≡ true → IsPackable s → IsPackable (promoting entries next s) }
+    ensures discarded { (s : Store) → IsPackable s → IsPackable (discarding s) }
+    ensures deleted { (s : Store) (stamp : Stamp) → IsPackable s → IsPackable (deleting stamp s) }
 {}
 
 /// The stamp of the first snapshot that isn't closed, which is the next stamp less the number of tentative snapshots, stays where it is
