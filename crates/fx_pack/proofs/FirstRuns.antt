@@ -1,12 +1,12 @@
 -- The first run of elements is the first of their longest runs.
-use Rattle.std.proofs.Common.{◌≡◌, ◌≢◌, refl, sym, ap, ◌∙◌, subst, ℕ, ℤ, pos, negsuc, zero, suc, ◌+◌, ◌^◌, ◌<◌, ◌≤◌, Bool, true, false, cond, ◌==◌, List, [], ◌∷◌, ◌++◌, map, length, drop, Option, Some, None, slice_get, get_or, append_assoc, add-one, arith}
+use Rattle.std.proofs.Common.{◌≡◌, ◌≢◌, refl, sym, ap, ◌∙◌, subst, ℕ, ℤ, pos, negsuc, zero, suc, ◌+◌, ◌^◌, ◌<◌, ◌≤◌, Bool, true, false, cond, ◌==◌, List, [], ◌∷◌, ◌++◌, map, length, drop, Some, None, slice_get, append_assoc, add-one, arith}
 use Rattle.std.specs.Prelude.{nat_lt, FitsSigned}
 use Rattle.std.specs.Int.{w16, w64, to_be_bytes}
 use Rattle.std.specs.List.{flat_map, list_all}
-use Rattle.std.specs.FinMap.{entries, entries_sorted, get, get-entries}
+use Rattle.std.specs.FinMap.{entries, entries_sorted, get-entries}
 use Rattle.std.specs.Ordering.{nat_cmp}
 use Rattle.std.specs.Cmp.{nat_cmp_total, tied_itself}
-use Rattle.std.proofs.lemmas.Bool.{eqb-true, eqb-false, eq-eqb, ne_eqb, lt-ltb, ltb-true, and_parts, and_from}
+use Rattle.std.proofs.lemmas.Bool.{eqb-true, eq-eqb, ne_eqb, lt-ltb, ltb-true, and_parts, and_from}
 use Rattle.std.proofs.lemmas.Option.{slice_get_within, slice_get_past, get_or_from_slice_get}
 use Rattle.std.proofs.Math.Seq.{drop-cons}
 use Rattle.std.proofs.lemmas.List.{append-nil}
@@ -185,8 +185,8 @@ pub fits_to_be_spelled : (s : Snapshot) → IsBounded s → members_have_64_bits
 fits_to_be_spelled s bounded bits =
     all_by_place is_member (entries s)
     (λ i e is.
-        let bounds = member_bounds s i e bounded is in
-        and_from (nat_lt e.0.0 8) (list_all is_entry (entries e.1)) (lt-ltb e.0.0 8 bounds.0) (entries_fit e.1 bounds.1 (at_place (λ x. have_64_bits (entries x.1)) (entries s) i e bits is)))
+    let bounds = member_bounds s i e bounded is in
+    and_from (nat_lt e.0.0 8) (list_all is_entry (entries e.1)) (lt-ltb e.0.0 8 bounds.0) (entries_fit e.1 bounds.1 (at_place (λ x. have_64_bits (entries x.1)) (entries s) i e bits is)))
 
 pub none_past : {X : Type 0} (es : List X) (at : ℕ) → slice_get es at ≡ None → length es ≤ at
 none_past [] at is = omega arith

@@ -1,12 +1,12 @@
 -- Reading with each element put where it belongs is the reading of the parts.
-use Rattle.std.proofs.Common.{◌≡◌, refl, sym, ap, ◌∙◌, subst, ℕ, ℤ, zero, suc, ◌+◌, ◌-◌, ◌<◌, ◌≤◌, Bool, true, false, cond, ◌&&◌, ◌==◌, T, List, [], ◌∷◌, ◌++◌, length, map, Option, Some, None, append_assoc, arith}
-use Rattle.std.specs.Prelude.{nat_lt, nat_le, IsTrue}
+use Rattle.std.proofs.Common.{◌≡◌, refl, sym, ap, ◌∙◌, subst, ℕ, ℤ, zero, suc, ◌+◌, ◌-◌, ◌<◌, ◌≤◌, Bool, true, false, cond, ◌&&◌, ◌==◌, List, [], ◌∷◌, ◌++◌, length, map, Option, Some, None, append_assoc, arith}
+use Rattle.std.specs.Prelude.{nat_lt, nat_le}
 use Rattle.std.specs.Int.{w16, w64, cast_signed}
 use Rattle.std.specs.List.{flat_map, enumerate_from}
 use Rattle.std.specs.Ordering.{nat_cmp}
 use Rattle.std.specs.Cmp.{nat_cmp_total}
 use Rattle.std.specs.declared.cmp.Ordering.TheVariants.{Less, Equal, Greater}
-use Rattle.std.specs.FinMap.{put, is_sorted, insert, empty, from_sorted}
+use Rattle.std.specs.FinMap.{put, insert, empty, from_sorted}
 use Rattle.std.proofs.lemmas.Bool.{le-ltb, ne_eqb}
 use Rattle.std.proofs.lemmas.List.{append-nil, length-append}
 use Rattle.fx_base.specs.Keys.{by_number, by_number_total}
@@ -19,7 +19,7 @@ use Rattle.fx_store.proofs.Numbers.{IsBytes, bind_some, some_is}
 use Rattle.fx_store.proofs.Orders.{RunsFrom, SectionsFrom}
 use Rattle.fx_store.proofs.Texts.{text_takes}
 use Rattle.fx_store.proofs.Meanings.{KeysFrom, sorted_keys, keys_of_runs, MembersFrom, sorted_members, members_of_sections}
-use Rattle.fx_pack.specs.Reading.{element_in, elements_put, may_stand, run_put, runs_put, member_put, members_put, head_in, snapshot_put}
+use Rattle.fx_pack.specs.Reading.{elements_put, may_stand, run_put, runs_put, member_put, members_put, head_in, snapshot_put}
 
 -- elements put in their order
 inserting : List (ℕ × ℤ) → Sparse → Sparse
@@ -115,6 +115,7 @@ elements_put_is (suc count) index bytes m = first (number_in w64 bytes) (λ afte
         ≡ ((o >>= with_element x) >>= put_elements index m)
     then x None = refl
     then x (Some r) = refl
+
     first : (o : Option (ℕ × List ℕ))
         → ((after : List ℕ) (x : ℤ) → elements_put count (index + 1) after (insert m index x) ≡ (elements_in count after >>= put_elements (index + 1) (insert m index x)))
         → ((o >>= as_element) >>= λ (e : ℤ × List ℕ). elements_put count (index + 1) e.1 (insert m index e.0))
@@ -139,17 +140,20 @@ run_put_is least bytes m = one (number_in w16 bytes)
         ≡ ((o >>= as_run start) >>= put_run m)
     four start count after None e = refl
     four start count after (Some r) e = ap (λ n. Some (inserting (enumerate_from start r.0) m, (start + n + 1, r.1))) (sym (elements_count count after r e))
+
     three : (start count : ℕ) (after : List ℕ) (b : Bool)
         → (only_if b (elements_put count start after m) >>= with_next (start + count + 1))
         ≡ ((only_if b (elements_in count after) >>= as_run start) >>= put_run m)
     three start count after true =
         ap (λ (o : Option (Sparse × List ℕ)). o >>= with_next (start + count + 1)) (elements_put_is count start after m) ∙ four start count after (elements_in count after) refl
     three start count after false = refl
+
     two : (start : ℕ) (o : Option (ℕ × List ℕ))
         → (o >>= λ count. only_if (may_stand least start count.0) (elements_put count.0 start count.1 m) >>= with_next (start + count.0 + 1))
         ≡ ((o >>= λ count. only_if (may_stand least start count.0) (elements_in count.0 count.1) >>= as_run start) >>= put_run m)
     two start None = refl
     two start (Some count) = three start count.0 count.1 (may_stand least start count.0)
+
     one : (o : Option (ℕ × List ℕ))
         → (o >>= λ start. number_in w16 start.1 >>= λ count. only_if (may_stand least start.0 count.0) (elements_put count.0 start.0 count.1 m) >>= with_next (start.0 + count.0 + 1))
         ≡ ((o >>= λ start. number_in w16 start.1 >>= λ count. only_if (may_stand least start.0 count.0) (elements_in count.0 count.1) >>= as_run start.0) >>= put_run m)
@@ -168,6 +172,7 @@ runs_put_is (suc count) least bytes m =
         ≡ ((o >>= with_run run) >>= put_runs m)
     then run None = refl
     then run (Some r) = ap (λ new. Some (new, r.1)) (sym (inserting_joined (indexed run) (flat_map indexed r.0) m))
+
     first : (o : Option RunAnd)
         → ((n : ℕ) (after : List ℕ) (new : Sparse) → runs_put count n after new ≡ (runs_in count n after >>= put_runs new))
         → ((o >>= put_run m) >>= λ (run : Sparse × (ℕ × List ℕ)). runs_put count run.1.0 run.1.1 run.0)
@@ -184,17 +189,20 @@ member_put_is least bytes = one (byte_in bytes)
         ≡ ((o >>= as_section member) >>= put_member)
     four member None = refl
     four member (Some r) = refl
+
     three : (member count : ℕ) (after : List ℕ) (b : Bool)
         → (only_if b (runs_put count 0 after empty) >>= as_member member)
         ≡ ((only_if b (runs_in count 0 after) >>= as_section member) >>= put_member)
     three member count after true =
         ap (λ (o : Option (Sparse × List ℕ)). o >>= as_member member) (runs_put_is count 0 after empty) ∙ four member (runs_in count 0 after)
     three member count after false = refl
+
     two : (member : ℕ) (o : Option (ℕ × List ℕ))
         → (o >>= λ count. only_if (nat_le least member && nat_lt member 8) (runs_put count.0 0 count.1 empty) >>= as_member member)
         ≡ ((o >>= λ count. only_if (nat_le least member && nat_lt member 8) (runs_in count.0 0 count.1) >>= as_section member) >>= put_member)
     two member None = refl
     two member (Some count) = three member count.0 count.1 (nat_le least member && nat_lt member 8)
+
     one : (o : Option (ℕ × List ℕ))
         → (o >>= λ member. number_in w16 member.1 >>= λ count. only_if (nat_le least member.0 && nat_lt member.0 8) (runs_put count.0 0 count.1 empty) >>= as_member member.0)
         ≡ ((o >>= λ member. number_in w16 member.1 >>= λ count. only_if (nat_le least member.0 && nat_lt member.0 8) (runs_in count.0 0 count.1) >>= as_section member.0) >>= put_member)
@@ -213,6 +221,7 @@ members_put_is (suc count) least bytes s =
         ≡ ((o >>= with_section section) >>= put_sections s)
     then section None = refl
     then section (Some r) = refl
+
     first : (o : Option SectionAnd)
         → ((n : ℕ) (after : List ℕ) (new : Snapshot) → members_put count n after new ≡ (sections_in count n after >>= put_sections new))
         → ((o >>= put_member) >>= λ (m : MemberAnd). members_put count (m.0 + 1) m.2 (insert s (record { 0 = m.0 }) m.1))
@@ -227,26 +236,31 @@ snapshot_put_is bytes = one (byte_in bytes)
   where
     marked : ℕ → ℕ → ℕ → ℕ → Bool
     marked f s v c = f == 70 && (s == 88 && (v == 1 && nat_le c 8))
+
     five : (count : ℕ × List ℕ) (b : Bool)
         → (only_if b (Some count) >>= λ (c : ℕ × List ℕ). members_put c.0 0 c.1 empty)
         ≡ (only_if b (sections_in count.0 0 count.1) >>= put_sections empty)
     five count true = members_put_is count.0 0 count.1 empty
     five count false = refl
+
     four : (f s v : ℕ) (o : Option (ℕ × List ℕ))
         → ((o >>= λ count. only_if (f == 70 && (s == 88 && (v == 1 && nat_le count.0 8))) (Some count)) >>= λ (c : ℕ × List ℕ). members_put c.0 0 c.1 empty)
         ≡ ((o >>= λ count. only_if (f == 70 && (s == 88 && (v == 1 && nat_le count.0 8))) (sections_in count.0 0 count.1)) >>= put_sections empty)
     four f s v None = refl
     four f s v (Some count) = five count (f == 70 && (s == 88 && (v == 1 && nat_le count.0 8)))
+
     three : (f s : ℕ) (o : Option (ℕ × List ℕ))
         → ((o >>= λ version. byte_in version.1 >>= λ count. only_if (f == 70 && (s == 88 && (version.0 == 1 && nat_le count.0 8))) (Some count)) >>= λ (c : ℕ × List ℕ). members_put c.0 0 c.1 empty)
         ≡ ((o >>= λ version. byte_in version.1 >>= λ count. only_if (f == 70 && (s == 88 && (version.0 == 1 && nat_le count.0 8))) (sections_in count.0 0 count.1)) >>= put_sections empty)
     three f s None = refl
     three f s (Some version) = four f s version.0 (byte_in version.1)
+
     two : (f : ℕ) (o : Option (ℕ × List ℕ))
         → ((o >>= λ second. byte_in second.1 >>= λ version. byte_in version.1 >>= λ count. only_if (f == 70 && (second.0 == 88 && (version.0 == 1 && nat_le count.0 8))) (Some count)) >>= λ (c : ℕ × List ℕ). members_put c.0 0 c.1 empty)
         ≡ ((o >>= λ second. byte_in second.1 >>= λ version. byte_in version.1 >>= λ count. only_if (f == 70 && (second.0 == 88 && (version.0 == 1 && nat_le count.0 8))) (sections_in count.0 0 count.1)) >>= put_sections empty)
     two f None = refl
     two f (Some second) = three f second.0 (byte_in second.1)
+
     one : (o : Option (ℕ × List ℕ))
         → ((o >>= λ first. byte_in first.1 >>= λ second. byte_in second.1 >>= λ version. byte_in version.1 >>= λ count. only_if (first.0 == 70 && (second.0 == 88 && (version.0 == 1 && nat_le count.0 8))) (Some count)) >>= λ (c : ℕ × List ℕ). members_put c.0 0 c.1 empty)
         ≡ ((o >>= λ first. byte_in first.1 >>= λ second. byte_in second.1 >>= λ version. byte_in version.1 >>= λ count. only_if (first.0 == 70 && (second.0 == 88 && (version.0 == 1 && nat_le count.0 8))) (sections_in count.0 0 count.1)) >>= put_sections empty)
@@ -276,7 +290,7 @@ inserting_is least ds (e ∷ es) from =
     let joined : (ds ++ e ∷ []) ++ es ≡ ds ++ e ∷ es = append_assoc ds (e ∷ []) es in
     let kept : KeysFrom least ds = front least ds from in
     let put_it : insert (from_sorted ds) e.0 e.1 ≡ from_sorted (ds ++ e ∷ []) =
-        sym (put_is_insert nat_cmp nat_cmp_total ds e.0 e.1 (sorted_keys least ds kept)) ∙ ap from_sorted (put_last least e.0 e.1 ds es from) in
+    sym (put_is_insert nat_cmp nat_cmp_total ds e.0 e.1 (sorted_keys least ds kept)) ∙ ap from_sorted (put_last least e.0 e.1 ds es from) in
     ap (inserting es) put_it ∙ inserting_is least (ds ++ e ∷ []) es (subst (KeysFrom least) (sym joined) from) ∙ ap from_sorted joined
   where
     front : (low : ℕ) (xs : List (ℕ × ℤ)) → KeysFrom low (xs ++ e ∷ es) → KeysFrom low xs
@@ -309,8 +323,8 @@ inserting_members_is least ds low (section ∷ sections) good from =
     let joined : (ds ++ e ∷ []) ++ es ≡ ds ++ e ∷ es = append_assoc ds (e ∷ []) es in
     let kept : MembersFrom least ds = front least ds from in
     let put_it : insert (from_sorted ds) e.0 (put_together section) ≡ from_sorted (ds ++ e ∷ []) =
-        ap (insert (from_sorted ds) e.0) (put_together_is section good.1.runs)
-        ∙ sym (put_is_insert by_number by_number_total ds e.0 e.1 (sorted_members least ds kept)) ∙ ap from_sorted (put_last_member least e.0 e.1 ds es from) in
+    ap (insert (from_sorted ds) e.0) (put_together_is section good.1.runs)
+    ∙ sym (put_is_insert by_number by_number_total ds e.0 e.1 (sorted_members least ds kept)) ∙ ap from_sorted (put_last_member least e.0 e.1 ds es from) in
     ap (inserting_members sections) put_it ∙ inserting_members_is least (ds ++ e ∷ []) (section.member + 1) sections good.2 (subst (MembersFrom least) (sym joined) from) ∙ ap from_sorted joined
   where
     front : (low : ℕ) (xs : List (MemberId × Sparse)) → MembersFrom low (xs ++ meaning_of section ∷ map meaning_of sections) → MembersFrom low xs
@@ -325,12 +339,11 @@ reads bytes s rest fits e =
     let t = text_takes bytes a.0.0 a.0.1 fits a.1 in
     let is = some_is (inserting_members a.0.0 empty, a.0.1) (s, rest) a.2 in
     let made : inserting_members a.0.0 empty ≡ snapshot_of a.0.0 =
-        ap (inserting_members a.0.0) (sym (none_is_empty by_number)) ∙ inserting_members_is 0 [] 0 a.0.0 t.from (members_of_sections 0 a.0.0 t.from) in
+    ap (inserting_members a.0.0) (sym (none_is_empty by_number)) ∙ inserting_members_is 0 [] 0 a.0.0 t.from (members_of_sections 0 a.0.0 t.from) in
     let snapshot : snapshot_of a.0.0 ≡ s = sym made ∙ ap (λ (r : Snapshot × List ℕ). r.0) is in
     let left : a.0.1 ≡ rest = ap (λ (r : Snapshot × List ℕ). r.1) is in
     let len : length bytes ≡ length (text_bytes a.0.0) + length a.0.1 = ap length t.taken.parts ∙ length-append (text_bytes a.0.0) a.0.1 in
-    let same : length a.0.1 ≡ length rest = ap length left in
-    (
+    let same : length a.0.1 ≡ length rest = ap length left in (
       omega (arith, len, same),
       ap (λ (o : Option SectionsAnd). o >>= as_answer bytes) a.1 ∙ (λ i. Some (snapshot i, length bytes - same i)),
     )

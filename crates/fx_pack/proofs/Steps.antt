@@ -1,12 +1,6 @@
 -- Reading part by part, as loops do.
-use Rattle.std.proofs.Common.{◌≡◌, refl, sym, ap, ◌∙◌, subst, ℕ, ℤ, zero, suc, ◌+◌, ◌-◌, ◌<◌, ◌≤◌, Bool, true, false, cond, List, [], ◌∷◌, Option, Some, None, arith}
-use Rattle.std.specs.Ordering.{nat_cmp, eq_by_cmp}
-use Rattle.std.specs.Cmp.{nat_cmp_total, unsigned_tied}
-use Rattle.std.specs.FinMap.{insert, empty, get, get-insert, get-empty}
-use Rattle.std.proofs.lemmas.Bool.{eqb-true}
-use Rattle.std.proofs.lemmas.Option.{none-some}
-use Rattle.fx_base.specs.Bounds.{HasIndicesBelow256}
-use Rattle.fx_base.specs.declared.names.MemberId.{MemberId}
+use Rattle.std.proofs.Common.{◌≡◌, sym, ap, ◌∙◌, ℕ, ℤ, suc, ◌+◌, List, Option, Some}
+use Rattle.std.specs.FinMap.{insert}
 use Rattle.fx_base.specs.declared.snapshot.Snapshot.{Snapshot}
 use Rattle.fx_base.specs.declared.sparse.Sparse.{Sparse}
 use Rattle.fx_store.specs.Packed.{◌>>=◌}

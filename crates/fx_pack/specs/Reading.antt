@@ -1,8 +1,7 @@
 -- Reading from left to right, each element put where it belongs as it is read.
-use Rattle.std.specs.Prelude.{◌≡◌, ℕ, zero, suc, ◌+◌, ℤ, Bool, ◌&&◌, ◌==◌, nat_lt, nat_le, List, [], Option, Some, None, Result, Ok, Err}
+use Rattle.std.specs.Prelude.{◌≡◌, ℕ, zero, suc, ◌+◌, ℤ, Bool, ◌&&◌, ◌==◌, nat_lt, nat_le, List, Option, Some, None, Result, Ok, Err}
 use Rattle.std.specs.Int.{w16, w64, cast_signed}
 use Rattle.std.specs.FinMap as finite
-use Rattle.fx_base.specs.declared.names.MemberId.{MemberId}
 use Rattle.fx_base.specs.declared.snapshot.Snapshot.{Snapshot}
 use Rattle.fx_base.specs.declared.sparse.Sparse.{Sparse}
 use Rattle.fx_store.specs.Packed.{◌>>=◌, only_if, byte_in, number_in}

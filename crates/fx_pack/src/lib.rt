@@ -5,7 +5,7 @@ mod fields;
 mod reading;
 mod writing;
 
-pub use reading::{unpack, Unpacked};
+pub use reading::{Unpacked, unpack};
 pub use writing::pack;
 
 #[cfg(test)]

@@ -5,7 +5,7 @@ ghost use Rattle.fx_store.specs.Packed.{snapshot_in};
 ghost use Rattle.fx_pack.specs.Reading.{Gives, Puts, elements_put, run_put, runs_put, member_put, members_put, head_in, snapshot_put};
 ghost use Rattle.fx_pack.specs.Answers.{IsReading, IsFront};
 
-use crate::fields::{read_byte, read_i64, read_u16, Fault};
+use crate::fields::{Fault, read_byte, read_i64, read_u16};
 use fx_base::{MemberId, NoMemory, Snapshot, Sparse};
 use std::alloc::Global;
 

@@ -7,15 +7,19 @@ use std::alloc::Global;
 use std::test::Fail;
 
 /// Member 0 has element 9 at index 1.
-const ONE: [u8; 19] = [0x46, 0x58, 1, 1, 0, 0, 1, 0, 1, 0, 1, 0, 0, 0, 0, 0, 0, 0, 9];
+const ONE: [u8; 19] = [
+    0x46, 0x58, 1, 1, 0, 0, 1, 0, 1, 0, 1, 0, 0, 0, 0, 0, 0, 0, 9,
+];
 
 fn read_one(alloc: Global, bytes: &[u8]) -> Result<Option<(i64, usize)>, Fail> {
     match unpack(alloc, bytes)? {
         Unpacked::NotOne => Ok(None),
-        Unpacked::Read(snapshot, used) => Ok(snapshot
-            .get(MemberId(0))
-            .and_then(|elements| elements.get(1))
-            .map(|element| (*element, used))),
+        Unpacked::Read(snapshot, used) => Ok(
+            snapshot
+                .get(MemberId(0))
+                .and_then(|elements| elements.get(1))
+                .map(|element| (*element, used)),
+        ),
     }
 }
 
@@ -39,8 +43,12 @@ fn one_element_is_packed(rt: HostRuntime) -> Result<(), Fail> {
 
 #[test]
 fn bytes_are_read_or_are_not_one(rt: HostRuntime) -> Result<(), Fail> {
-    let version_2 = [0x46, 0x58, 2, 1, 0, 0, 1, 0, 1, 0, 1, 0, 0, 0, 0, 0, 0, 0, 9];
-    let more = [0x46, 0x58, 1, 1, 0, 0, 1, 0, 1, 0, 1, 0, 0, 0, 0, 0, 0, 0, 9, 7, 7];
+    let version_2 = [
+        0x46, 0x58, 2, 1, 0, 0, 1, 0, 1, 0, 1, 0, 0, 0, 0, 0, 0, 0, 9,
+    ];
+    let more = [
+        0x46, 0x58, 1, 1, 0, 0, 1, 0, 1, 0, 1, 0, 0, 0, 0, 0, 0, 0, 9, 7, 7,
+    ];
     for (bytes, read) in [
         (ONE.as_slice(), Some((9, 19))),
         (more.as_slice(), Some((9, 19))),

@@ -85,13 +85,13 @@ pub trait Policy: Copy {
     ghost leaves_all_uncovered: { (p : Self) → LeavesAllUncovered (redundancy p) } = { λ p. uncovered (redundancy p) (rebuilds_covered p) };
 
     ghost meets_laws: { (p : Self) → MeetsLaws (redundancy p) } = { λ p. record {
-        rebuilds_covered = rebuilds_covered p;
-        rebuilds_nothing_else = rebuilds_nothing_else p;
-        wards_are_kept = wards_are_kept p;
-        none_keeps_itself = none_keeps_itself p;
-        are_places = are_places p;
-        covers_smaller = covers_smaller p;
-        covers_none = covers_none p;
-        folds_wards_alone = folds_wards_alone p;
+      rebuilds_covered = rebuilds_covered p;
+      rebuilds_nothing_else = rebuilds_nothing_else p;
+      wards_are_kept = wards_are_kept p;
+      none_keeps_itself = none_keeps_itself p;
+      are_places = are_places p;
+      covers_smaller = covers_smaller p;
+      covers_none = covers_none p;
+      folds_wards_alone = folds_wards_alone p;
     } };
 }

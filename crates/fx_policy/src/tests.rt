@@ -43,7 +43,11 @@ fn shares(alloc: Global, place: u8, bytes: &[u8]) -> Result<Shares, Fail> {
 
 #[test]
 fn mirrors_keep_their_wards(rt: HostRuntime) -> Result<(), Fail> {
-    for (separation, place, keepers, wards) in [(2, 0, [2], [2]), (1, 0, [1], [3]), (4, 3, [0], [2])] {
+    for (separation, place, keepers, wards) in [
+        (2, 0, [2], [2]),
+        (1, 0, [1], [3]),
+        (4, 3, [0], [2]),
+    ] {
         let mirror = Mirror { separation };
         assert!(rt; mirror.keepers(4, place) == places(&keepers));
         assert!(rt; mirror.wards(4, place) == places(&wards));
@@ -65,6 +69,10 @@ fn lost_bytes_are_made_again(rt: HostRuntime) -> Result<(), Fail> {
     assert_eq!(rt; mirror.help(rt.alloc(), 4, 1, 0, &own, &share)?.len(), 0);
     let made = made_again(mirror, rt.alloc(), 4, 0, &shares(rt.alloc(), 2, &[7, 8])?)?;
     assert!(rt; made.is_some_and(|bytes| bytes.as_slice() == [7, 8].as_slice()));
-    assert!(rt; mirror.rebuild(rt.alloc(), 4, 0, &shares(rt.alloc(), 1, &[7, 8])?)?.is_none());
+    assert!(rt;
+        mirror
+            .rebuild(rt.alloc(), 4, 0, &shares(rt.alloc(), 1, &[7, 8])?)?
+            .is_none()
+    );
     Ok(())
 }

@@ -1,11 +1,11 @@
 -- Elements that move one by one.
-use Rattle.std.proofs.Common.{◌≡◌, ◌≢◌, refl, sym, ap, ◌∙◌, subst, ℕ, ℤ, zero, suc, ◌+◌, ◌<◌, ◌≤◌, Bool, true, false, cond, ◌==◌, List, [], ◌∷◌, length, drop, Option, Some, None, slice_get, arith}
+use Rattle.std.proofs.Common.{◌≡◌, refl, sym, ap, ◌∙◌, subst, ℕ, ℤ, zero, suc, ◌+◌, ◌<◌, ◌≤◌, Bool, true, false, cond, ◌==◌, List, [], ◌∷◌, length, drop, Option, Some, None, slice_get, arith}
 use Rattle.std.specs.Option.{option_or}
 use Rattle.std.specs.Ordering.{nat_cmp, eq_by_cmp}
 use Rattle.std.specs.Cmp.{nat_cmp_total, unsigned_tied, tied_itself}
 use Rattle.fx_base.proofs.Entries.{place_at, found_at_place}
 use Rattle.std.specs.FinMap.{find, get, insert, empty, entries, entries_sorted, get-insert, get-empty, get-entries, same_map, nat_cmp-IsAntisymmetric}
-use Rattle.std.proofs.lemmas.Bool.{eqb-true, eqb-false, ne_eqb, cases_lt}
+use Rattle.std.proofs.lemmas.Bool.{eqb-true, ne_eqb}
 use Rattle.fx_base.specs.Bounds.{HasIndicesBelow256}
 use Rattle.fx_base.specs.declared.sparse.Sparse.{Sparse}
 use Rattle.fx_store.specs.Store.{put_over}
@@ -123,11 +123,11 @@ pub overlay_ends : (piece old before made : Sparse) (k at next : ℕ) → Overla
 overlay_ends piece old before made k at next inv is moves none =
     same_map nat_cmp_total nat_cmp-IsAntisymmetric made (put_over piece old)
     (λ q.
-        ap (λ es. option_or (find nat_cmp q es) (get made q)) (sym none)
-        ∙ moves q
-        ∙ ap (λ es. option_or (find nat_cmp q es) (option_or (find nat_cmp q (drop at (entries old))) (get before q))) (sym (drop_none (entries piece) k is))
-        ∙ inv q
-        ∙ sym (get-put_over piece old q))
+    ap (λ es. option_or (find nat_cmp q es) (get made q)) (sym none)
+    ∙ moves q
+    ∙ ap (λ es. option_or (find nat_cmp q es) (option_or (find nat_cmp q (drop at (entries old))) (get before q))) (sym (drop_none (entries piece) k is))
+    ∙ inv q
+    ∙ sym (get-put_over piece old q))
 
 -- a piece over nothing is the piece
 pub over_nothing : (piece : Sparse) → put_over piece empty ≡ piece

@@ -1,5 +1,5 @@
 -- What is done to the snapshots of a store, as done to its parts.
-use Rattle.std.proofs.Common.{◌≡◌, refl, sym, ap, ◌∙◌, subst, ℕ, ℤ, pos, zero, suc, ◌+◌, ◌-◌, ◌<◌, ◌≤◌, ◌+ℤ◌, ◌<ℤ◌, List, [], ◌∷◌, ◌++◌, length, take, drop, Option, Some, None, slice_get, arith}
+use Rattle.std.proofs.Common.{◌≡◌, refl, sym, ap, ◌∙◌, ℕ, ℤ, pos, zero, suc, ◌+◌, ◌-◌, ◌<◌, ◌≤◌, ◌+ℤ◌, ◌<ℤ◌, List, [], ◌∷◌, ◌++◌, length, take, drop, Option, Some, None, slice_get, arith}
 use Rattle.std.specs.Prelude.{FitsSigned}
 use Rattle.std.specs.Int.{w64, cast_signed, cast_unsigned}
 use Rattle.std.specs.List.{remove}
@@ -8,15 +8,15 @@ use Rattle.std.specs.FinMap.{empty, get}
 use Rattle.std.specs.FinSet.{FinSet}
 use Rattle.std.specs.Option.{option_or}
 use Rattle.std.proofs.lemmas.Int.{to_z-of_z, ints}
-use Rattle.std.proofs.lemmas.List.{take-append-le, drop-append-le, take-append-drop, length-append}
+use Rattle.std.proofs.lemmas.List.{take-append-le, drop-append-le, take-append-drop}
 use Rattle.std.proofs.lemmas.Option.{slice_get_within}
 use Rattle.fx_base.specs.Bounds.{HasIndicesBelow256}
 use Rattle.fx_base.specs.declared.names.Stamp.{Stamp}
 use Rattle.fx_base.specs.declared.snapshot.Snapshot.{Snapshot}
 use Rattle.fx_base.specs.declared.sparse.Sparse.{Sparse}
-use Rattle.fx_store.specs.Store.{Store, Stamped, later, free_stamp, stamps_of, newest, newest_stamp, committing, closing, deleting, without, put_over, RiseBelow, IsSound}
+use Rattle.fx_store.specs.Store.{Store, Stamped, later, free_stamp, newest, newest_stamp, committing, closing, deleting, without, put_over, IsSound}
 use Rattle.fx_store.proofs.Overlays.{get-put_over}
-use Rattle.fx_store.proofs.Sounds.{sound_committing, sound_closing, sound_deleting, removed_is}
+use Rattle.fx_store.proofs.Sounds.{removed_is}
 use Rattle.fx_snap.specs.Stores.{store_of}
 
 take_whole : {X : Type 0} (xs : List X) → take (length xs) xs ≡ xs
@@ -99,7 +99,7 @@ taken_out pending items closed attached next depth stamp at e within sound is sa
     let lt : at < length (take closed items) = slice_get_within (take closed items) at e is in
     let among : at < closed = omega (arith, lt, length_of_taken items closed within) in
     let kept : take (closed - 1) (remove items at) ≡ without stamp (take closed items) =
-        take_of_removed items at closed among within ∙ sym (removed_is stamp (take closed items) at e (bound) sound.rise is same) in
+    take_of_removed items at closed among within ∙ sym (removed_is stamp (take closed items) at e (bound) sound.rise is same) in
     record {
       among = among;
       left = omega (arith, length_of_removed items at (omega (arith, among, within)), among, within);

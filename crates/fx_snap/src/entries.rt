@@ -43,10 +43,7 @@ pub(crate) fn last_stamp(entries: &[(Stamp, Snapshot)]) -> Option<Stamp>
 }
 
 /// The stamps, in the order of the list.
-pub(crate) fn all_stamps(
-    alloc: Global,
-    entries: &[(Stamp, Snapshot)],
-) -> Result<Stamps, NoMemory>
+pub(crate) fn all_stamps(alloc: Global, entries: &[(Stamp, Snapshot)]) -> Result<Stamps, NoMemory>
     ensures { IfOk result (λ stamps. stamps ≡ stamps_of entries.now) }
 {
     let mut stamps = Stamps::new(alloc);

@@ -43,12 +43,7 @@ fn overlaid(alloc: Global, piece: &Sparse, old: &Sparse) -> Result<Sparse, NoMem
 }
 
 /// Puts the elements from entry `from` on whose indices are at most `last`, and says which entry is behind them.
-fn put_up_to(
-    made: &mut Sparse,
-    old: &Sparse,
-    from: usize,
-    last: u32,
-) -> Result<usize, NoMemory>
+fn put_up_to(made: &mut Sparse, old: &Sparse, from: usize, last: u32) -> Result<usize, NoMemory>
     requires { HasIndicesBelow256 old.now }
     ensures moved { IfOk result (λ next. Moves made.old made.new (drop from (map.entries old.now)) (drop next (map.entries old.now))) }
     ensures above { IfOk result (λ next. KeysFrom (last + 1) (drop next (map.entries old.now))) }

@@ -23,7 +23,10 @@ fn element_at_0(store: &GroupStore, stamp: i64) -> Result<Option<i64>, FindEnd> 
 fn closed_snapshots_are_found(rt: HostRuntime) -> Result<(), Fail> {
     let mut store = GroupStore::new(rt.alloc(), Stamp(0), 0);
     let piece = at_0(rt.alloc(), 4)?;
-    assert_eq!(rt; store.store(MemberId(0), &piece), Err(StoreEnd::NotAttached));
+    assert_eq!(rt;
+        store.store(MemberId(0), &piece),
+        Err(StoreEnd::NotAttached)
+    );
     store.attach(MemberId(0));
     assert_eq!(rt; store.store(MemberId(0), &piece), Ok(()));
     for stamp in [0, 1] {
@@ -32,7 +35,11 @@ fn closed_snapshots_are_found(rt: HostRuntime) -> Result<(), Fail> {
         assert_eq!(rt; element_at_0(&store, stamp), Err(FindEnd::NoStamp));
         store.close();
         assert_eq!(rt; store.latest(), Some(Stamp(stamp)));
-        let found = if stamp == 0 { Ok(Some(4)) } else { Err(FindEnd::NotStored) };
+        let found = if stamp == 0 {
+            Ok(Some(4))
+        } else {
+            Err(FindEnd::NotStored)
+        };
         assert_eq!(rt; element_at_0(&store, stamp), found);
     }
     assert_eq!(rt; element_at_0(&store, 0), Err(FindEnd::NoStamp));
@@ -48,11 +55,18 @@ fn sixteen_commits_wait_and_the_newest_are_kept(rt: HostRuntime) -> Result<(), F
     let mut store = GroupStore::new(rt.alloc(), Stamp(3), 14);
     for stamp in 3..20 {
         assert_eq!(rt; store.next_stamp(), Stamp(stamp));
-        let end = if stamp < 19 { Ok(Stamp(stamp)) } else { Err(CommitEnd::Full) };
+        let end = if stamp < 19 {
+            Ok(Stamp(stamp))
+        } else {
+            Err(CommitEnd::Full)
+        };
         assert_eq!(rt; store.commit(), end);
     }
     store.close();
-    assert_eq!(rt; (store.stamps()?.len(), store.next_stamp()), (15, Stamp(19)));
+    assert_eq!(rt;
+        (store.stamps()?.len(), store.next_stamp()),
+        (15, Stamp(19))
+    );
     assert_eq!(rt; store.delete(Stamp(3)), Err(DeleteEnd::NoStamp));
     assert_eq!(rt; store.delete(Stamp(4)), Ok(()));
     assert_eq!(rt; store.kept(0).map(|entry| entry.0), Some(Stamp(5)));

@@ -1,7 +1,7 @@
 -- The buddy of a place is another place, and each place is the buddy of one.
-use Rattle.std.proofs.Common.{◌≡◌, ◌≢◌, ◌⊎◌, inl, inr, refl, sym, ap, ◌∙◌, ℕ, ◌+◌, ◌-◌, ◌%◌, ◌<◌, ◌≤◌, Bool, true, false, not, ◌&&◌, ◌==◌, cond, arith}
+use Rattle.std.proofs.Common.{◌≡◌, ◌≢◌, ◌⊎◌, inl, inr, refl, sym, ap, ◌∙◌, ℕ, ◌+◌, ◌-◌, ◌%◌, ◌<◌, ◌≤◌, Bool, true, false, ◌==◌, arith}
 use Rattle.std.specs.Prelude.{if◌then◌else◌}
-use Rattle.std.proofs.lemmas.Bool.{cases_lt, eqb-true, eqb-false, eq-eqb, ne_eqb}
+use Rattle.std.proofs.lemmas.Bool.{cases_lt, eqb-false, ne_eqb}
 use Rattle.std.proofs.Math.Nat.{mod-eq_of_lt, mod-eq-sub-mod, mod-lt}
 use Rattle.fx_store.specs.Mirror.{buddy, AreBuddies}
 
@@ -12,9 +12,9 @@ module _ (n d : ℕ) (some : 0 < d) (few : d < n) where
       elim (cases_lt (i + d) n) [
         | inl lt ↦ inl (lt, mod-eq_of_lt lt)
         | inr le ↦
-          let less : (i + d) - n < n = omega arith in
-          let same : (i + d) % n ≡ (i + d) - n = mod-eq-sub-mod le ∙ mod-eq_of_lt less in
-          inr (le, omega (arith, same))
+            let less : (i + d) - n < n = omega arith in
+            let same : (i + d) % n ≡ (i + d) - n = mod-eq-sub-mod le ∙ mod-eq_of_lt less in
+            inr (le, omega (arith, same))
       ]
 
   turned_below : (i : ℕ) → i < n → (i + d) % n < n
@@ -35,16 +35,16 @@ module _ (n d : ℕ) (some : 0 < d) (few : d < n) where
   turned_to j below =
       elim (cases_lt j d) [
         | inl lt ↦
-          let w : ℕ = (j + n) - d in
-          let less : w < n = omega arith in
-          let sum : w + d ≡ j + n = omega arith in
-          let there : (w + d) % n + n ≡ w + d = elim (turned w less) [ inl a ↦ absurd (omega (arith, a.0)) | inr a ↦ a.1 ] in
-          (w, less, omega (arith, there, sum))
+            let w : ℕ = (j + n) - d in
+            let less : w < n = omega arith in
+            let sum : w + d ≡ j + n = omega arith in
+            let there : (w + d) % n + n ≡ w + d = elim (turned w less) [ inl a ↦ absurd (omega (arith, a.0)) | inr a ↦ a.1 ] in
+            (w, less, omega (arith, there, sum))
         | inr le ↦
-          let w : ℕ = j - d in
-          let less : w < n = omega arith in
-          let sum : w + d ≡ j = omega arith in
-          (w, less, ap (λ k. k % n) sum ∙ mod-eq_of_lt below)
+            let w : ℕ = j - d in
+            let less : w < n = omega arith in
+            let sum : w + d ≡ j = omega arith in
+            (w, less, ap (λ k. k % n) sum ∙ mod-eq_of_lt below)
       ]
 
 -- how far a buddy is

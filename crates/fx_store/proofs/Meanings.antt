@@ -1,6 +1,6 @@
 -- The parts of a text and the snapshot that they mean: each gives the other.
-use Rattle.std.proofs.Common.{◌≡◌, ◌≢◌, refl, sym, ap, ◌∙◌, subst, ℕ, ℤ, zero, suc, ◌+◌, ◌<◌, ◌≤◌, Bool, true, false, cond, ◌&&◌, ◌==◌, T, List, [], ◌∷◌, ◌++◌, map, length, arith}
-use Rattle.std.specs.Prelude.{nat_lt, IsTrue}
+use Rattle.std.proofs.Common.{◌≡◌, ◌≢◌, refl, sym, ap, ◌∙◌, subst, ℕ, ℤ, suc, ◌+◌, ◌<◌, ◌≤◌, Bool, true, false, cond, ◌&&◌, ◌==◌, T, List, [], ◌∷◌, ◌++◌, map, length, arith}
+use Rattle.std.specs.Prelude.{nat_lt}
 use Rattle.std.specs.List.{flat_map, enumerate_from, list_all}
 use Rattle.std.specs.Ordering.{nat_cmp, is_lt}
 use Rattle.std.specs.declared.cmp.Ordering.{Ordering}
@@ -14,7 +14,7 @@ use Rattle.fx_base.specs.declared.snapshot.Snapshot.{Snapshot}
 use Rattle.fx_base.specs.declared.sparse.Sparse.{Sparse}
 use Rattle.fx_base.proofs.Entries.{holds}
 use Rattle.fx_store.specs.Packed.{Run, Section, run_end, is_element, indexed, meaning_of, snapshot_of, put_first, runs_of, section_of, sections_of, has_spelling}
-use Rattle.fx_store.proofs.Orders.{GoodRun, RunsFrom, GoodSection, SectionsFrom}
+use Rattle.fx_store.proofs.Orders.{RunsFrom, GoodSection, SectionsFrom}
 
 -- ---- keys in order
 
@@ -177,8 +177,7 @@ put_good least e (run ∷ runs) le fits from = go (run.start == e.0 + 1) refl
     go true is =
         let p = and_parts (nat_lt e.0 256) (is_element e.1) fits in
         let same : run.start ≡ e.0 + 1 = eqb-true run.start (e.0 + 1) is in
-        let within : run.start + length run.elements ≤ 256 = from.1.within in
-        (
+        let within : run.start + length run.elements ≤ 256 = from.1.within in (
           le,
           record { some = omega arith; within = omega (arith, within, same); elements = and_from (is_element e.1) (list_all is_element run.elements) p.1 from.1.elements },
           runs_weaker (run_end run + 1) (e.0 + suc (length run.elements) + 1) runs (omega (arith, same)) from.2,
@@ -186,8 +185,7 @@ put_good least e (run ∷ runs) le fits from = go (run.start == e.0 + 1) refl
     go false is =
         let p = and_parts (nat_lt e.0 256) (is_element e.1) fits in
         let lt : e.0 < 256 = ltb-true e.0 256 p.0 in
-        let other : run.start ≢ e.0 + 1 = eqb-false run.start (e.0 + 1) is in
-        (
+        let other : run.start ≢ e.0 + 1 = eqb-false run.start (e.0 + 1) is in (
           le,
           record { some = omega arith; within = omega (arith, lt); elements = and_from (is_element e.1) true p.1 refl },
           (omega (arith, other, from.0), from.1, from.2),
@@ -251,8 +249,7 @@ sections_good : (least : ℕ) (es : List (MemberId × Sparse)) → MembersFrom l
 sections_good least [] from all = tt
 sections_good least (e ∷ es) from all =
     let p = and_parts (is_member e) (list_all is_member es) all in
-    let q = and_parts (nat_lt e.0.0 8) (list_all is_entry (entries e.1)) p.0 in
-    (
+    let q = and_parts (nat_lt e.0.0 8) (list_all is_entry (entries e.1)) p.0 in (
       from.0,
       record { below = ltb-true e.0.0 8 q.0; runs = runs_good 0 (entries e.1) (keys_from (entries e.1) (told (is_sorted nat_cmp (entries e.1)) (entries_sorted e.1))) q.1 },
       sections_good (e.0.0 + 1) es from.1 p.1,

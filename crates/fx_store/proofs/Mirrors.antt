@@ -1,5 +1,5 @@
 -- Where each place is kept by its buddy the laws of redundancy are met.
-use Rattle.std.proofs.Common.{◌≡◌, ◌≢◌, ◌⊎◌, inl, inr, refl, sym, ap, ◌∙◌, subst, ℕ, zero, suc, ◌+◌, ◌<◌, ◌≤◌, Bool, true, false, not, ◌&&◌, ◌==◌, cond, List, [], ◌∷◌, ◌++◌, length, Option, Some, None, arith}
+use Rattle.std.proofs.Common.{◌≡◌, ◌≢◌, ◌⊎◌, inl, inr, refl, sym, ap, ◌∙◌, subst, ℕ, zero, suc, ◌<◌, Bool, true, false, not, ◌&&◌, ◌==◌, cond, List, [], ◌∷◌, ◌++◌, length, Some, arith}
 use Rattle.std.specs.Prelude.{if◌then◌else◌, nat_lt}
 use Rattle.std.specs.Cmp.{both_ways}
 use Rattle.std.specs.List.{flat_map}
@@ -7,7 +7,7 @@ use Rattle.std.proofs.lemmas.Bool.{cases_lt, cases_eq, cases_Bool, and_parts, an
 use Rattle.std.proofs.lemmas.List.{append-nil}
 use Rattle.std.proofs.lemmas.List.Concat.{flat_map-append}
 use Rattle.fx_base.specs.Sets.{those_below}
-use Rattle.fx_store.specs.Redundancy.{Redundancy, IsSize, IsPayload, HavePayloads, each_below, of_wards, share_of, helps, AreHelps, RebuildsCovered, RebuildsNothingElse, WardsAreKept, NoneKeepsItself, ArePlaces, CoversSmaller, CoversNone, FoldsWardsAlone, MeetsLaws}
+use Rattle.fx_store.specs.Redundancy.{IsSize, HavePayloads, each_below, of_wards, share_of, helps, AreHelps, RebuildsCovered, RebuildsNothingElse, NoneKeepsItself, ArePlaces, CoversSmaller, MeetsLaws}
 use Rattle.fx_store.specs.Mirror.{AreBuddies, buddy, is_keeper, is_ward, some_bytes, kept_by_buddies, mirror}
 use Rattle.fx_store.proofs.Buddies.{are_buddies}
 
@@ -39,13 +39,13 @@ one_below test zero w below passes only = absurd (omega arith)
 one_below test (suc n) w below passes only =
     elim (cases_eq w n) [
       | inl same ↦
-        let others : those_below test n ≡ [] = none_below test n (λ x less. false_from_ne_true (test x) (λ t. omega (arith, only x (omega arith) t, same))) in
-        let last : test n ≡ true = ap test (sym same) ∙ passes in
-        (λ i. others i ++ cond (last i) (n ∷ []) []) ∙ ap (λ k. k ∷ []) (sym same)
+          let others : those_below test n ≡ [] = none_below test n (λ x less. false_from_ne_true (test x) (λ t. omega (arith, only x (omega arith) t, same))) in
+          let last : test n ≡ true = ap test (sym same) ∙ passes in
+          (λ i. others i ++ cond (last i) (n ∷ []) []) ∙ ap (λ k. k ∷ []) (sym same)
       | inr apart ↦
-        let before : those_below test n ≡ w ∷ [] = one_below test n w (omega (arith, apart)) passes (λ x less. only x (omega arith)) in
-        let last : test n ≡ false = false_from_ne_true (test n) (λ t. apart (sym (only n (omega arith) t))) in
-        (λ i. before i ++ cond (last i) (n ∷ []) [])
+          let before : those_below test n ≡ w ∷ [] = one_below test n w (omega (arith, apart)) passes (λ x less. only x (omega arith)) in
+          let last : test n ≡ false = false_from_ne_true (test n) (λ t. apart (sym (only n (omega arith) t))) in
+          (λ i. before i ++ cond (last i) (n ∷ []) [])
     ]
 
 -- what is joined of those that pass depends on them alone
@@ -145,8 +145,8 @@ module _ (of : (n place : ℕ) → ℕ) where
     made n i bytes lost given size below payloads gone are there =
         elim (many_or_one n size) [
           | inl many ↦
-            let heard : given (of n i) ≡ bytes i = are (of n i) (good.below n i size below) ∙ help_is n i bytes lost size many below there in
-            ap some_bytes heard ∙ nonempty_is (bytes i) (payloads i below).0
+              let heard : given (of n i) ≡ bytes i = are (of n i) (good.below n i size below) ∙ help_is n i bytes lost size many below there in
+              ap some_bytes heard ∙ nonempty_is (bytes i) (payloads i below).0
           | inr one ↦ absurd (true≢false (sym gone ∙ ap lost (sym (own_buddy n i size one below)) ∙ there))
         ]
 
@@ -167,11 +167,10 @@ module _ (of : (n place : ℕ) → ℕ) where
         false_from_ne_true (is_keeper of n i i) (λ keeps. let by = kept_by n i i keeps in good.away n i (omega (arith, by.0, size.0)) below (sym by.1))
 
     are_places : ArePlaces (kept_by_buddies of)
-    are_places n i j size below =
-        (
-          λ keeps. subst (λ k. k < n) (sym (kept_by n i j keeps).1) (good.below n i size below),
-          λ ward. ltb-true j n (and_parts (nat_lt j n) (is_keeper of n j i) ward).0,
-        )
+    are_places n i j size below = (
+      λ keeps. subst (λ k. k < n) (sym (kept_by n i j keeps).1) (good.below n i size below),
+      λ ward. ltb-true j n (and_parts (nat_lt j n) (is_keeper of n j i) ward).0,
+    )
 
     covers_smaller : CoversSmaller (kept_by_buddies of)
     covers_smaller n lost some size covered inside =

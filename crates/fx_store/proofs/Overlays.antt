@@ -1,9 +1,9 @@
 -- What is found in elements that were put over others.
-use Rattle.std.proofs.Common.{◌≡◌, refl, sym, ap, ◌∙◌, ℕ, ℤ, Bool, true, false, cond, List, [], ◌∷◌, ◌++◌, Option, Some, None}
+use Rattle.std.proofs.Common.{◌≡◌, refl, sym, ap, ◌∙◌, ℕ, Bool, true, false, cond, List, [], ◌∷◌, ◌++◌, Option, Some}
 use Rattle.std.specs.Option.{option_or}
 use Rattle.std.specs.Ordering.{nat_cmp, eq_by_cmp}
 use Rattle.std.specs.Cmp.{nat_cmp_total}
-use Rattle.std.specs.FinMap.{FinMap, find, entries, empty, from_sorted, get, get-entries, from_entries, get-from_entries, entries-from_sorted, empty_of_len, len-entries}
+use Rattle.std.specs.FinMap.{find, entries, empty, get, get-entries, get-from_entries, entries-from_sorted}
 use Rattle.std.specs.declared.cmp.Ordering.{Ordering}
 use Rattle.fx_base.proofs.Maps.{none_is_empty}
 use Rattle.fx_base.specs.declared.sparse.Sparse.{Sparse}

@@ -1,5 +1,5 @@
 -- All snapshots of a store can be packed, and each call leaves it so.
-use Rattle.std.proofs.Common.{◌≡◌, refl, sym, ap, ◌∙◌, subst, ℕ, zero, suc, ◌<◌, Bool, true, false, not, cond, ◌&&◌, List, [], ◌∷◌, ◌++◌, length, drop, Option, Some, None}
+use Rattle.std.proofs.Common.{◌≡◌, refl, sym, ap, ◌∙◌, ℕ, zero, suc, ◌<◌, Bool, true, false, not, cond, ◌&&◌, List, [], ◌∷◌, ◌++◌, drop, Option, Some, None}
 use Rattle.std.specs.Prelude.{nat_lt, unwrap_or}
 use Rattle.std.specs.List.{list_all, filter}
 use Rattle.std.specs.Ordering.{nat_cmp, eq_by_cmp}
@@ -11,11 +11,10 @@ use Rattle.std.proofs.lemmas.Bool.{lt-ltb, and_parts, and_from}
 use Rattle.fx_base.specs.Keys.{by_number, by_number_total, by_time}
 use Rattle.fx_base.specs.declared.names.MemberId.{MemberId}
 use Rattle.fx_base.specs.declared.names.Stamp.{Stamp}
-use Rattle.fx_base.specs.declared.snapshot.Snapshot.{Snapshot}
 use Rattle.fx_base.specs.declared.sparse.Sparse.{Sparse}
 use Rattle.fx_store.specs.Packable.{IsPackable, have_spellings, elements_fit}
 use Rattle.fx_store.specs.Packed.{has_spelling, is_element}
-use Rattle.fx_store.specs.Store.{Store, Stamped, new_store, attaching, storing, committing, closing, promoting, discarding, deleting, put_over, pending_of, newest, without}
+use Rattle.fx_store.specs.Store.{Store, Stamped, new_store, attaching, storing, committing, closing, promoting, discarding, deleting, put_over, pending_of}
 use Rattle.fx_store.proofs.Overlays.{entries-empty}
 
 -- ---- lists
@@ -87,7 +86,7 @@ member_fits member = nat_lt member.0 8
 put_over_fits : (piece old : Sparse) → elements_fit piece ≡ true → elements_fit old ≡ true → elements_fit (put_over piece old) ≡ true
 put_over_fits piece old new was =
     all_collected nat_cmp index_fits is_element nat_cmp_total (entries piece ++ entries old)
-        (all_append (fits index_fits is_element) (entries piece) (entries old) new was)
+    (all_append (fits index_fits is_element) (entries piece) (entries old) new was)
 
 none_fits : elements_fit empty ≡ true
 none_fits = ap (list_all (fits index_fits is_element)) (entries-empty nat_cmp)

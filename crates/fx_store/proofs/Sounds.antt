@@ -1,15 +1,15 @@
 -- What the calls keep of a store.
-use Rattle.std.proofs.Common.{◌≡◌, ◌≢◌, refl, sym, ap, ◌∙◌, subst, ℕ, ℤ, pos, zero, suc, ◌+◌, ◌-◌, ◌<◌, ◌≤◌, ◌+ℤ◌, ◌-ℤ◌, ◌<ℤ◌, Bool, true, false, not, cond, List, [], ◌∷◌, ◌++◌, length, map, drop, Option, Some, None, slice_get, append_assoc, length-append, length-drop, arith}
-use Rattle.std.specs.List.{filter, remove}
+use Rattle.std.proofs.Common.{◌≡◌, ◌≢◌, refl, sym, ap, ◌∙◌, subst, ℕ, ℤ, pos, zero, suc, ◌+◌, ◌-◌, ◌<◌, ◌≤◌, ◌+ℤ◌, ◌-ℤ◌, ◌<ℤ◌, Bool, true, false, not, cond, List, [], ◌∷◌, ◌++◌, length, drop, Option, Some, None, slice_get, append_assoc, length-append, length-drop, arith}
+use Rattle.std.specs.List.{remove}
 use Rattle.std.specs.Prelude.{is_some}
 use Rattle.std.specs.Ordering.{int_cmp, int_eq, is_eq, eq_by_cmp}
 use Rattle.std.specs.declared.cmp.Ordering.{Ordering}
 use Rattle.std.specs.declared.cmp.Ordering.TheVariants.{Less, Equal, Greater}
 use Rattle.std.specs.Cmp.{int_cmp_total, tied_itself}
-use Rattle.std.specs.FinMap.{find, int_cmp-IsAntisymmetric}
+use Rattle.std.specs.FinMap.{find}
 use Rattle.std.proofs.lemmas.Int.{ints}
-use Rattle.std.proofs.lemmas.List.{length-map, append-nil}
-use Rattle.fx_base.specs.Keys.{by_time, by_time_same, by_time_total}
+use Rattle.std.proofs.lemmas.List.{append-nil}
+use Rattle.fx_base.specs.Keys.{by_time, by_time_same}
 use Rattle.fx_base.specs.declared.names.MemberId.{MemberId}
 use Rattle.fx_base.specs.declared.names.Stamp.{Stamp}
 use Rattle.fx_base.specs.declared.sparse.Sparse.{Sparse}

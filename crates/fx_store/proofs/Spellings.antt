@@ -1,16 +1,14 @@
 -- The laws of packed snapshots.
-use Rattle.std.proofs.Common.{◌≡◌, refl, sym, ap, ◌∙◌, subst, ℕ, zero, suc, ◌+◌, ◌-◌, ◌*◌, ◌/◌, ◌%◌, ◌^◌, ◌<◌, ◌≤◌, Bool, true, false, List, [], ◌∷◌, ◌++◌, length, take, drop, get_or, Option, Some, None, arith, inl, inr, lit≤}
-use Rattle.std.specs.Prelude.{IsTrue}
+use Rattle.std.proofs.Common.{◌≡◌, refl, sym, ap, ◌∙◌, subst, ℕ, zero, suc, ◌+◌, ◌-◌, ◌*◌, ◌/◌, ◌^◌, ◌<◌, ◌≤◌, true, List, [], ◌∷◌, ◌++◌, length, take, drop, Option, Some, None, arith, lit≤}
 use Rattle.std.specs.Int.{w16, w64, to_be_bytes, byte_at, bytes_high_first, cast_unsigned}
 use Rattle.std.specs.List.{flat_map}
-use Rattle.std.proofs.lemmas.Bool.{cases_lt}
-use Rattle.std.proofs.lemmas.List.{take_at, drop_at, take-append-drop, length-append, length-take, length-drop, append-nil}
+use Rattle.std.proofs.lemmas.List.{take_at, take-append-drop, length-append}
 use Rattle.std.proofs.lemmas.Option.{none-some}
 use Rattle.std.proofs.Math.Nat.{mod-lt}
 use Rattle.fx_base.specs.declared.snapshot.Snapshot.{Snapshot}
 use Rattle.fx_store.specs.Redundancy.{IsPayload}
-use Rattle.fx_store.specs.Packed.{Run, Section, ◌>>=◌, run_end, is_text, element_bytes, run_bytes, section_bytes, text_bytes, snapshot_of, sections_of, spelling_of, has_spelling, Spells, text_in, snapshot_in}
-use Rattle.fx_store.proofs.Numbers.{IsBytes, bind_some, some_is, Takes}
+use Rattle.fx_store.specs.Packed.{Run, Section, ◌>>=◌, run_end, element_bytes, run_bytes, section_bytes, text_bytes, snapshot_of, sections_of, spelling_of, has_spelling, Spells, text_in, snapshot_in}
+use Rattle.fx_store.proofs.Numbers.{IsBytes, bind_some, some_is}
 use Rattle.fx_store.proofs.Orders.{RunsFrom, SectionsFrom, sections_from, few_sections, text_is}
 use Rattle.fx_store.proofs.Texts.{text_again, text_takes}
 use Rattle.fx_store.proofs.Meanings.{sections_again, snapshot_again, sections_in_order, meaning_has_spelling}
@@ -65,8 +63,7 @@ read_is bytes s used fits e =
     let parts : bytes ≡ front ++ a.0.1 = t.taken.parts in
     let len : length bytes ≡ length front + length a.0.1 = ap length parts ∙ length-append front a.0.1 in
     let used-is : used ≡ length front = sym (ap (λ (r : Snapshot × ℕ). r.1) is) ∙ omega (arith, len) in
-    let taken : take used bytes ≡ front = (λ i. take (used-is i) (parts i)) ∙ take_at front a.0.1 (length front) refl in
-    (
+    let taken : take used bytes ≡ front = (λ i. take (used-is i) (parts i)) ∙ take_at front a.0.1 (length front) refl in (
       omega (arith, used-is, len),
       record { sections = a.0.0; in_order = text_is a.0.0 t.from; spelled = taken; meant = sym (ap (λ (r : Snapshot × ℕ). r.0) is) },
     )

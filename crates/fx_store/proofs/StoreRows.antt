@@ -1,19 +1,18 @@
 -- Worked rows of a store, whose maps and sets answer by their laws.
-use Rattle.std.proofs.Common.{◌≡◌, refl, sym, ap, ◌∙◌, ℕ, ℤ, pos, negsuc, ◌&&◌, zero, suc, ◌++◌, Bool, true, false, List, [], ◌∷◌, Option, Some, None, Result, Ok, Err, length, arith}
+use Rattle.std.proofs.Common.{◌≡◌, refl, ap, ◌∙◌, ℕ, ℤ, pos, negsuc, ◌&&◌, zero, suc, ◌++◌, true, false, [], ◌∷◌, Some, None, Ok, Err, arith}
 use Rattle.std.specs.Prelude.{nat_lt}
 use Rattle.std.specs.Ordering.{nat_cmp}
 use Rattle.std.specs.Cmp.{nat_cmp_total}
-use Rattle.std.specs.FinMap.{entries, from_sorted, entries-from_sorted, get, get-insert, get-empty, insert, empty, from_entries, get-from_entries}
+use Rattle.std.specs.FinMap.{entries, from_sorted, entries-from_sorted, get, get-insert, get-empty, insert, empty}
 use Rattle.std.specs.FinSet as set
 use Rattle.fx_base.specs.Keys.{by_number, by_number_total}
 use Rattle.fx_base.specs.declared.names.MemberId.{MemberId}
 use Rattle.fx_base.specs.declared.names.Stamp.{Stamp}
 use Rattle.fx_base.specs.declared.sparse.Sparse.{Sparse}
 use Rattle.fx_base.specs.declared.snapshot.Snapshot.{Snapshot}
-use Rattle.fx_store.specs.declared.answers.FindEnd.{FindEnd}
 use Rattle.fx_store.specs.declared.answers.FindEnd.TheVariants.{NotAttached, NoStamp, NotStored}
 use Rattle.fx_store.proofs.Overlays.{get-put_over}
-use Rattle.fx_store.specs.Store.{Store, new_store, attaching, is_attached, storing, committing, closing, discarding, promoting, deleting, found, latest, put_over, pending_of, is_full, has_stamp, free_stamp, stamps_of, counted, RiseBelow}
+use Rattle.fx_store.specs.Store.{Store, new_store, attaching, is_attached, storing, committing, closing, discarding, promoting, deleting, found, latest, put_over, pending_of, is_full, has_stamp, stamps_of, counted, RiseBelow}
 use Rattle.std.proofs.lemmas.Int.{ints}
 use Rattle.fx_store.specs.Packed.{has_spelling, is_element, spelling_of, snapshot_in, text_in, elements_in, run_in, runs_in, section_in, sections_in}
 use Rattle.fx_store.specs.Rows.{one_element_bytes}
@@ -133,8 +132,8 @@ first_stays =
     ap (λ p. get p 2) (pending_after seven (storing member_0 five_six attached))
     ∙ (get-put_over _ _ 2
     ∙ rw (get-insert nat_cmp_total empty 1 (pos 7) 2, get-empty {X = ℤ} nat_cmp 2)
-        (ap (λ p. get p 2) (pending_after five_six attached)
-        ∙ (get-put_over _ _ 2 ∙ rw (get-insert nat_cmp_total (insert empty 1 (pos 5)) 2 (pos 6) 2) refl)))
+    (ap (λ p. get p 2) (pending_after five_six attached)
+    ∙ (get-put_over _ _ 2 ∙ rw (get-insert nat_cmp_total (insert empty 1 (pos 5)) 2 (pos 6) 2) refl)))
 
 -- the entry of another member stays
 other_entry : get (storing member_1 seven stored).pending member_0 ≡ get stored.pending member_0

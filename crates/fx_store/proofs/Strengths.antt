@@ -2,7 +2,7 @@
 use Rattle.std.proofs.Common.{◌≡◌, refl, sym, ap, ℕ, ◌<◌, Bool, true, false, List, [], ◌∷◌, Option, Some, None, ◌⊎◌, arith, lit≤}
 use Rattle.std.specs.Prelude.{if◌then◌else◌, nat_lt}
 use Rattle.fx_store.specs.Mirror.{mirror, buddy}
-use Rattle.fx_store.specs.Redundancy.{Redundancy, IsSize, IsPayload, RebuildsCovered, RebuildsNothingElse, FoldsWardsAlone, AreHelps, helps, of_wards, share_of}
+use Rattle.fx_store.specs.Redundancy.{Redundancy, IsSize, IsPayload, RebuildsCovered, RebuildsNothingElse, FoldsWardsAlone, of_wards, share_of}
 use Rattle.fx_store.proofs.Uncovered.{leaves_all_uncovered, nobody, nothing, each}
 
 -- whatever the others have, a share is the same
@@ -43,7 +43,7 @@ neither o is h = grind (arith, is, h)
 making_up_is_refused : RebuildsNothingElse making_up → ⊥
 making_up_is_refused law =
     neither (Some (0 ∷ [])) refl (law 2 0 (each 1) (λ j. true) nothing (lit≤ tt, lit≤ tt) (lit≤ tt) (λ j below. (lit≤ tt, lit≤ tt)) refl
-        (λ j below. sym (nobody (nat_lt j 2) true (making_up.help 2 j 0 (each 1 j) (share_of making_up 2 j (each 1))) refl)))
+    (λ j below. sym (nobody (nat_lt j 2) true (making_up.help 2 j 0 (each 1 j) (share_of making_up 2 j (each 1))) refl)))
 
 -- every set counts as covered
 abbrev covering_all : Redundancy

@@ -1,11 +1,11 @@
 -- The parts of a text in bytes: what is written is read again, and what is read was written so.
-use Rattle.std.proofs.Common.{◌≡◌, refl, sym, ap, ◌∙◌, subst, ℕ, ℤ, zero, suc, ◌+◌, ◌^◌, ◌<◌, ◌≤◌, Bool, true, false, ◌&&◌, ◌==◌, List, [], ◌∷◌, ◌++◌, length, get_or, Option, Some, None, append_assoc, arith}
+use Rattle.std.proofs.Common.{◌≡◌, refl, sym, ap, ◌∙◌, subst, ℕ, ℤ, zero, suc, ◌+◌, ◌^◌, ◌<◌, ◌≤◌, Bool, true, ◌&&◌, ◌==◌, List, [], ◌∷◌, ◌++◌, length, Option, Some, append_assoc, arith}
 use Rattle.std.specs.Prelude.{nat_le, nat_lt}
 use Rattle.std.specs.Int.{w16, to_be_bytes}
-use Rattle.std.specs.List.{flat_map, list_all}
+use Rattle.std.specs.List.{flat_map}
 use Rattle.std.proofs.lemmas.Bool.{leb-true, le-leb, ltb-true, lt-ltb, eqb-true, and_parts, and_from}
 use Rattle.fx_store.specs.Packed.{Run, Section, ◌>>=◌, only_if, run_end, byte_in, number_in, elements_in, run_in, runs_in, section_in, sections_in, text_in, element_bytes, run_bytes, section_bytes, text_bytes}
-use Rattle.fx_store.proofs.Numbers.{IsBytes, bind_some, only_held, some_is, Takes, Takes-then, wide16, number_takes, number_again, elements_again, ReadElements, elements_take}
+use Rattle.fx_store.proofs.Numbers.{IsBytes, bind_some, only_held, some_is, Takes, Takes-then, wide16, number_takes, number_again, elements_again, elements_take}
 use Rattle.fx_store.proofs.Orders.{GoodRun, RunsFrom, GoodSection, SectionsFrom, few_sections}
 
 -- ---- bytes
@@ -28,11 +28,11 @@ run_again least run rest begins good =
     let elements : List ℕ = flat_map element_bytes run.elements in
     let counted : List ℕ = to_be_bytes w16 (length run.elements) ++ (elements ++ rest) in
     let regrouped : run_bytes run ++ rest ≡ to_be_bytes w16 run.start ++ counted =
-        append_assoc (to_be_bytes w16 run.start) (to_be_bytes w16 (length run.elements) ++ elements) rest
-        ∙ ap (λ (x : List ℕ). to_be_bytes w16 run.start ++ x) (append_assoc (to_be_bytes w16 (length run.elements)) elements rest) in
+    append_assoc (to_be_bytes w16 run.start) (to_be_bytes w16 (length run.elements) ++ elements) rest
+    ∙ ap (λ (x : List ℕ). to_be_bytes w16 run.start ++ x) (append_assoc (to_be_bytes w16 (length run.elements)) elements rest) in
     let stands : fits_at least run.start (length run.elements) ≡ true =
-        and_from (nat_le least run.start) (nat_lt 0 (length run.elements) && nat_le (run.start + length run.elements) 256) (le-leb least run.start begins)
-        (and_from (nat_lt 0 (length run.elements)) (nat_le (run.start + length run.elements) 256) (lt-ltb 0 (length run.elements) good.some) (le-leb (run.start + length run.elements) 256 within)) in
+    and_from (nat_le least run.start) (nat_lt 0 (length run.elements) && nat_le (run.start + length run.elements) 256) (le-leb least run.start begins)
+    (and_from (nat_lt 0 (length run.elements)) (nat_le (run.start + length run.elements) 256) (lt-ltb 0 (length run.elements) good.some) (le-leb (run.start + length run.elements) 256 within)) in
     ap (run_in least) regrouped
     ∙ rw (number_again w16 (2 ^ 16) wide16 run.start counted (omega (arith, within)), number_again w16 (2 ^ 16) wide16 (length run.elements) (elements ++ rest) (omega (arith, within)), stands, elements_again run.elements rest good.elements) refl
 
@@ -60,7 +60,7 @@ run_takes least bytes run rest fits e =
     let both = Takes-then a.0.1 (to_be_bytes w16 b.0.0) b.0.1 (flat_map element_bytes c.0.0) c.0.1 u.0 v.taken in
     let whole = Takes-then bytes (to_be_bytes w16 a.0.0) a.0.1 (to_be_bytes w16 b.0.0 ++ flat_map element_bytes c.0.0) c.0.1 t.0 both in
     let exact : Takes bytes (to_be_bytes w16 a.0.0 ++ (to_be_bytes w16 (length c.0.0) ++ flat_map element_bytes c.0.0)) c.0.1 =
-        subst (λ k. Takes bytes (to_be_bytes w16 a.0.0 ++ (to_be_bytes w16 k ++ flat_map element_bytes c.0.0)) c.0.1) (sym same) whole in
+    subst (λ k. Takes bytes (to_be_bytes w16 a.0.0 ++ (to_be_bytes w16 k ++ flat_map element_bytes c.0.0)) c.0.1) (sym same) whole in
     subst (λ (x : Run × List ℕ). ReadRun least bytes x.0 x.1) (some_is (record { start = a.0.0; elements = c.0.0 }, c.0.1) (run, rest) c.2)
     (record {
       taken = exact;
@@ -114,9 +114,9 @@ section_again least section rest begins good =
     let runs : List ℕ = flat_map run_bytes section.runs in
     let few : length section.runs + 0 ≤ 257 = few_runs 0 section.runs (omega arith) good.runs in
     let regrouped : section_bytes section ++ rest ≡ section.member ∷ (to_be_bytes w16 (length section.runs) ++ (runs ++ rest)) =
-        ap (λ (x : List ℕ). section.member ∷ x) (append_assoc (to_be_bytes w16 (length section.runs)) runs rest) in
+    ap (λ (x : List ℕ). section.member ∷ x) (append_assoc (to_be_bytes w16 (length section.runs)) runs rest) in
     let stands : (nat_le least section.member && nat_lt section.member 8) ≡ true =
-        and_from (nat_le least section.member) (nat_lt section.member 8) (le-leb least section.member begins) (lt-ltb section.member 8 good.below) in
+    and_from (nat_le least section.member) (nat_lt section.member 8) (le-leb least section.member begins) (lt-ltb section.member 8 good.below) in
     ap (section_in least) regrouped
     ∙ rw (number_again w16 (2 ^ 16) wide16 (length section.runs) (runs ++ rest) (omega (arith, few)), stands, runs_again 0 section.runs rest good.runs) refl
 
@@ -141,7 +141,7 @@ section_takes least bytes section rest fits e =
     let both = Takes-then a.0.1 (to_be_bytes w16 b.0.0) b.0.1 (flat_map run_bytes c.0.0) c.0.1 u.0 v.taken in
     let whole = Takes-then bytes (a.0.0 ∷ []) a.0.1 (to_be_bytes w16 b.0.0 ++ flat_map run_bytes c.0.0) c.0.1 t both in
     let exact : Takes bytes (a.0.0 ∷ (to_be_bytes w16 (length c.0.0) ++ flat_map run_bytes c.0.0)) c.0.1 =
-        subst (λ k. Takes bytes (a.0.0 ∷ (to_be_bytes w16 k ++ flat_map run_bytes c.0.0)) c.0.1) (sym v.count_is) whole in
+    subst (λ k. Takes bytes (a.0.0 ∷ (to_be_bytes w16 k ++ flat_map run_bytes c.0.0)) c.0.1) (sym v.count_is) whole in
     subst (λ (x : Section × List ℕ). ReadSection least bytes x.0 x.1) (some_is (record { member = a.0.0; runs = c.0.0 }, c.0.1) (section, rest) c.2)
     (record { taken = exact; begins = leb-true least a.0.0 p.0; good = record { below = ltb-true a.0.0 8 p.1; runs = v.from } })
 
@@ -209,5 +209,5 @@ text_takes bytes sections rest fits e =
     let s1 = Takes-then a.0.1 (b.0.0 ∷ []) b.0.1 (c.0.0 ∷ d.0.0 ∷ flat_map section_bytes sections) rest tb s2 in
     let s0 = Takes-then bytes (a.0.0 ∷ []) a.0.1 (b.0.0 ∷ c.0.0 ∷ d.0.0 ∷ flat_map section_bytes sections) rest ta s1 in
     let is : a.0.0 ∷ b.0.0 ∷ c.0.0 ∷ d.0.0 ∷ flat_map section_bytes sections ≡ text_bytes sections =
-        (λ i. eqb-true a.0.0 70 p.0 i ∷ eqb-true b.0.0 88 q.0 i ∷ eqb-true c.0.0 1 r.0 i ∷ sym v.count_is i ∷ flat_map section_bytes sections) in
+    (λ i. eqb-true a.0.0 70 p.0 i ∷ eqb-true b.0.0 88 q.0 i ∷ eqb-true c.0.0 1 r.0 i ∷ sym v.count_is i ∷ flat_map section_bytes sections) in
     record { taken = subst (λ (x : List ℕ). Takes bytes x rest) is s0; from = v.from }

@@ -1,7 +1,7 @@
 -- The set of all places is never covered.
-use Rattle.std.proofs.Common.{◌≡◌, refl, sym, ap, ◌∙◌, ℕ, ◌<◌, ◌≤◌, Bool, true, false, not, ◌&&◌, cond, List, [], ◌∷◌, length, Option, Some, None, arith, lit≤}
+use Rattle.std.proofs.Common.{◌≡◌, refl, sym, ℕ, Bool, true, false, not, ◌&&◌, List, [], ◌∷◌, Option, Some, arith, lit≤}
 use Rattle.std.specs.Prelude.{if◌then◌else◌, nat_lt}
-use Rattle.fx_store.specs.Redundancy.{Redundancy, IsSize, RebuildsCovered, LeavesAllUncovered, AreHelps, helps, share_of}
+use Rattle.fx_store.specs.Redundancy.{Redundancy, RebuildsCovered, LeavesAllUncovered, AreHelps, share_of}
 
 pub nobody : (below lost : Bool) (bytes : List ℕ) → lost ≡ true → (if below && not lost then bytes else []) ≡ []
 nobody true true bytes h = refl
@@ -24,8 +24,10 @@ leaves_all_uncovered r rebuilds n lost size all = go (r.covers n lost) refl
   where
     no_help : (b : ℕ) → AreHelps r n 0 (each b) lost nothing
     no_help b j below = sym (nobody (nat_lt j n) (lost j) (r.help n j 0 (each b j) (share_of r n j (each b))) (all j below))
+
     one : (b : ℕ) → r.covers n lost ≡ true → r.rebuild n 0 nothing ≡ Some (b ∷ [])
     one b covered = rebuilds n 0 (each b) lost nothing size size.0 (λ j below. (lit≤ tt, lit≤ tt)) covered (all 0 size.0) (no_help b)
+
     go : (c : Bool) → r.covers n lost ≡ c → c ≡ false
     go false e = refl
     go true e = absurd (two_at_once (one 0 e) (one 1 e))

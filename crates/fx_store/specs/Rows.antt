@@ -1,9 +1,8 @@
 -- Worked rows: what the definitions give, by computation.
-use Rattle.std.specs.Prelude.{◌≡◌, refl, ℕ, pos, negsuc, ◌+◌, ◌++◌, map, Bool, true, false, ◌||◌, ◌==◌, List, [], ◌∷◌, take, replicate, Option, Some, None}
+use Rattle.std.specs.Prelude.{◌≡◌, refl, ℕ, pos, negsuc, ◌+◌, ◌++◌, map, true, false, ◌||◌, ◌==◌, List, [], ◌∷◌, take, replicate, Some, None}
 use Rattle.fx_base.specs.Sets.{those_below}
-use Rattle.fx_base.specs.declared.names.Stamp.{Stamp}
 use Rattle.fx_store.specs.Mirror.{mirror, buddy}
-use Rattle.fx_store.specs.Packed.{Run, Section, text_bytes, is_text, is_element, runs_of, text_in, elements_in, run_in, runs_in, section_in, sections_in}
+use Rattle.fx_store.specs.Packed.{Section, text_bytes, is_text, is_element, runs_of, text_in, elements_in, run_in, runs_in, section_in, sections_in}
 use Rattle.fx_store.specs.Redundancy.{bytes_at, helps, of_wards, share_of}
 use Rattle.fx_store.specs.Store.{counted, newest}
 

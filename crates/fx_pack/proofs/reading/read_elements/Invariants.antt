@@ -1,4 +1,4 @@
-use Rattle.std.proofs.Common.{◌≡◌, ◌+◌, ◌-◌, ◌≤◌}
+use Rattle.std.proofs.Common.{◌≡◌, ◌+◌, ◌-◌}
 use Rattle.fx_base.specs.Bounds.{HasIndicesBelow256}
 use Rattle.fx_pack.specs.Reading.{elements_put}
 use Rattle.fx_pack.proofs.reading.read_elements.Given as goal

@@ -6,4 +6,4 @@ use Rattle.fx_pack.proofs.tests.at_1.Goals as goal
 pub returns : goal.returns
 returns c =
     subst HasIndicesBelow256 (sym c.in_ok-put.ensures.ok)
-        (insert_below c.new-elements.result 1 _ (lit≤ tt) (subst HasIndicesBelow256 (sym c.new-elements.ensures) none_above))
+    (insert_below c.new-elements.result 1 _ (lit≤ tt) (subst HasIndicesBelow256 (sym c.new-elements.ensures) none_above))

@@ -14,11 +14,10 @@ returns-in-Some-clause-some c =
     (goes_on_at (entries c.args.elements.now) c.args.at c.args.index (c.in-Some.found, c.in-Some.element.now) (sym c.in-Some.ensures) c.if-found-index.true fits)
 
 pub returns-in-Some-clause-within : goal.returns-in-Some-clause-within
-returns-in-Some-clause-within c =
-    (
-      subst (λ k. k < 256) c.if-found-index.true (index_below c.args.elements.now c.args.at (c.in-Some.found, c.in-Some.element.now) c.requires (sym c.in-Some.ensures)),
-      slice_get_within (entries c.args.elements.now) c.args.at (c.in-Some.found, c.in-Some.element.now) (sym c.in-Some.ensures),
-    )
+returns-in-Some-clause-within c = (
+  subst (λ k. k < 256) c.if-found-index.true (index_below c.args.elements.now c.args.at (c.in-Some.found, c.in-Some.element.now) c.requires (sym c.in-Some.ensures)),
+  slice_get_within (entries c.args.elements.now) c.args.at (c.in-Some.found, c.in-Some.element.now) (sym c.in-Some.ensures),
+)
 
 pub returns-in_default-clause-none : goal.returns-in_default-clause-none
 returns-in_default-clause-none c =

@@ -1,4 +1,4 @@
-use Rattle.std.proofs.Common.{◌≡◌, ◌+◌, ◌∷◌, ◌++◌, [], ◌≤◌, ◌<◌, true, length, drop, map, None, slice_get, refl, sym, ap, subst, ◌∙◌, arith}
+use Rattle.std.proofs.Common.{◌≡◌, ◌∷◌, ◌++◌, [], ◌≤◌, true, length, map, None, slice_get, sym, ap, subst, ◌∙◌, arith}
 use Rattle.std.specs.List.{flat_map}
 use Rattle.std.specs.FinMap.{entries, len-entries}
 use Rattle.std.proofs.lemmas.List.{length-map}
@@ -29,12 +29,12 @@ loop-k-preserved c =
     let es = entries c.args.snapshot.now in
     elim c.match-nth.branch [
       | in-Some+in_ok-push_member w ↦
-        let step = one_member_at c.match-nth.out c.loop-k.out es c.loop-k.k (w.in-Some.member, w.in-Some.elements.now) (spelling_of c.args.snapshot.now) (sym w.in-Some.ensures.pair)
-            (w.out-is ∙ w.in_ok-push_member.ensures.pushed) w.in_ok-push_member.ensures.bits c.loop-k.invariant.written in
-        record { written = step.written; bits = λ rest. c.loop-k.invariant.bits (step.bits rest) }
+          let step = one_member_at c.match-nth.out c.loop-k.out es c.loop-k.k (w.in-Some.member, w.in-Some.elements.now) (spelling_of c.args.snapshot.now) (sym w.in-Some.ensures.pair)
+          (w.out-is ∙ w.in_ok-push_member.ensures.pushed) w.in_ok-push_member.ensures.bits c.loop-k.invariant.written in
+          record { written = step.written; bits = λ rest. c.loop-k.invariant.bits (step.bits rest) }
       | in_default w ↦
-        let none : slice_get es c.loop-k.k ≡ None = sym (rw w.in_default.is at c.nth.ensures.pair) in
-        absurd (omega (arith, none_past es c.loop-k.k none, c.loop-k-test.true, c.len-count.ensures.len, len-entries c.args.snapshot.now))
+          let none : slice_get es c.loop-k.k ≡ None = sym (rw w.in_default.is at c.nth.ensures.pair) in
+          absurd (omega (arith, none_past es c.loop-k.k none, c.loop-k-test.true, c.len-count.ensures.len, len-entries c.args.snapshot.now))
     ]
 
 pub returns-clause-spelling : goal.returns-clause-spelling

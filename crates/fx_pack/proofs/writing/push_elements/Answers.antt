@@ -1,11 +1,11 @@
-use Rattle.std.proofs.Common.{◌≡◌, ◌+◌, ◌∷◌, ◌++◌, ◌≤◌, ◌<◌, length, drop, sym, ap, ◌∙◌, append_assoc, arith, rules}
+use Rattle.std.proofs.Common.{◌≡◌, ◌+◌, ◌++◌, length, drop, sym, ap, ◌∙◌, arith, rules}
 use Rattle.std.specs.Prelude.{FitsSigned}
 use Rattle.std.specs.Int.{w64}
 use Rattle.std.proofs.lemmas.Int.{to_z-of_z}
 use Rattle.std.specs.List.{flat_map}
 use Rattle.std.specs.FinMap.{entries}
 use Rattle.fx_store.specs.Packed.{element_bytes}
-use Rattle.fx_pack.specs.Runs.{going_on, behind, have_64_bits}
+use Rattle.fx_pack.specs.Runs.{going_on}
 use Rattle.fx_pack.proofs.FirstRuns.{few_entries, one_element}
 use Rattle.fx_pack.proofs.writing.push_elements.Goals as goal
 

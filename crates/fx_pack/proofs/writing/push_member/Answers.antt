@@ -1,4 +1,4 @@
-use Rattle.std.proofs.Common.{◌≡◌, ◌+◌, ◌∷◌, ◌++◌, [], ◌≤◌, ◌<◌, true, length, drop, sym, ap, ◌∙◌, arith}
+use Rattle.std.proofs.Common.{◌≡◌, ◌++◌, [], true, length, drop, sym, ap, ◌∙◌, arith}
 use Rattle.std.specs.List.{flat_map}
 use Rattle.std.specs.FinMap.{entries, len-entries}
 use Rattle.std.proofs.lemmas.List.{append-nil}
@@ -34,14 +34,14 @@ returns-clause-pushed c =
     let inv = c.loop-at.invariant in
     let end : drop c.loop-at.at es ≡ [] = drop_all es c.loop-at.at (omega (arith, len-entries c.args.elements.now, c.len.ensures, c.loop-at-test.false)) in
     let runs : c.as_slice.result.now ≡ flat_map run_bytes (runs_of es) =
-        c.as_slice.ensures ∙ sym (append-nil c.loop-at.runs) ∙ ap (λ rest. c.loop-at.runs ++ flat_map run_bytes (runs_of rest)) (sym end) ∙ inv.written in
+    c.as_slice.ensures ∙ sym (append-nil c.loop-at.runs) ∙ ap (λ rest. c.loop-at.runs ++ flat_map run_bytes (runs_of rest)) (sym end) ∙ inv.written in
     let none : length (runs_of (drop c.loop-at.at es)) ≡ 0 = ap (λ rest. length (runs_of rest)) end in
     let count : c.loop-at.count ≡ length (runs_of es) = omega (arith, none, inv.counted) in
     IfOk-weaker c.append-2.result
     (λ u. c.append-2.new.self ≡ c.append.new.self ++ c.as_slice.result.now)
     (λ u. c.append-2.new.self ≡ c.args.out.now ++ section_bytes (section_of (c.args.member, c.args.elements.now)))
     (λ u four. whole_section c.args.out.now c.push.new.self c.append.new.self c.append-2.new.self c.to_be_bytes.result c.as_slice.result.now c.args.member.0 c.loop-at.count (runs_of es)
-        c.in_ok-push.ensures.ok c.in_ok-append.ensures.ok c.to_be_bytes.ensures four runs count)
+    c.in_ok-push.ensures.ok c.in_ok-append.ensures.ok c.to_be_bytes.ensures four runs count)
     c.append-2.ensures.ok
 
 pub returns-clause-bits : goal.returns-clause-bits

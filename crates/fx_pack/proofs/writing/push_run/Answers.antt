@@ -1,4 +1,4 @@
-use Rattle.std.proofs.Common.{◌≡◌, suc, ◌+◌, ◌-◌, ◌∷◌, ◌++◌, ◌≤◌, ◌<◌, length, drop, sym, ap, ◌∙◌, append_assoc, arith, Some, slice_get, rules}
+use Rattle.std.proofs.Common.{◌≡◌, suc, ◌+◌, ◌-◌, ◌++◌, ◌<◌, length, drop, sym, ap, ◌∙◌, arith, rules}
 use Rattle.std.specs.Prelude.{FitsSigned}
 use Rattle.std.specs.Int.{w64}
 use Rattle.std.proofs.lemmas.Int.{to_z-of_z}
@@ -6,7 +6,7 @@ use Rattle.std.specs.List.{flat_map}
 use Rattle.std.specs.FinMap.{entries}
 use Rattle.std.proofs.lemmas.Bool.{and_from}
 use Rattle.fx_store.specs.Packed.{element_bytes, is_element}
-use Rattle.fx_pack.specs.Runs.{going_on, behind, have_64_bits}
+use Rattle.fx_pack.specs.Runs.{going_on, have_64_bits}
 use Rattle.fx_pack.proofs.FirstRuns.{few_entries, index_below, drop_at_entry, element_fits, whole_run}
 use Rattle.fx_pack.proofs.writing.push_run.Goals as goal
 

@@ -1,4 +1,4 @@
-use Rattle.std.proofs.Common.{sym, ap, ◌∙◌, ◌≡◌, ◌==◌, ◌||◌, Bool, true, false, refl}
+use Rattle.std.proofs.Common.{ap, ◌∙◌, ◌≡◌, ◌||◌, Bool, true, false, refl}
 use Rattle.std.specs.Cmp.{nat_cmp_total, unsigned_tied}
 use Rattle.std.specs.Ordering.{nat_cmp, eq_by_cmp}
 use Rattle.std.specs.FinSet.{contains, insert, empty, contains-insert, contains-empty}

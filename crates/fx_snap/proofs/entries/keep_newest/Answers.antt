@@ -1,4 +1,4 @@
-use Rattle.std.proofs.Common.{◌∙◌, ap, ◌<◌, arith}
+use Rattle.std.proofs.Common.{◌∙◌, ap, arith}
 use Rattle.fx_store.specs.Store.{newest}
 use Rattle.fx_snap.proofs.Parts.{newest_without_first}
 use Rattle.fx_snap.proofs.entries.keep_newest.Goals as goal

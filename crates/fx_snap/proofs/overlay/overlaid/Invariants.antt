@@ -1,4 +1,4 @@
-use Rattle.std.proofs.Common.{◌-◌, ◌≤◌, length}
+use Rattle.std.proofs.Common.{◌-◌, length}
 use Rattle.std.specs.FinMap.{entries}
 use Rattle.fx_snap.proofs.Moving.{Overlaid}
 use Rattle.fx_snap.proofs.overlay.overlaid.Given as goal

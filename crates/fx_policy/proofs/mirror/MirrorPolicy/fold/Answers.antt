@@ -1,4 +1,4 @@
-use Rattle.std.proofs.Common.{refl, sym, ap, ◌∙◌, ◌<◌, ◌≤◌, ◌≡◌, arith}
+use Rattle.std.proofs.Common.{sym, ap, ◌∙◌, ◌<◌, arith}
 use Rattle.fx_store.specs.Mirror.{buddy}
 use Rattle.fx_store.specs.Redundancy.{bytes_at}
 use Rattle.fx_store.proofs.Buddies.{are_buddies}

@@ -1,4 +1,4 @@
-use Rattle.std.proofs.Common.{◌≡◌, ◌≤◌, ◌<◌, ◌-◌, true, false, length, take, drop, Some, slice_get, sym, ap, ◌∙◌, subst, arith}
+use Rattle.std.proofs.Common.{◌≡◌, ◌-◌, true, length, take, slice_get, sym, ap, ◌∙◌, subst, arith}
 use Rattle.std.specs.Prelude.{is_some}
 use Rattle.std.specs.List.{remove}
 use Rattle.std.specs.FinMap.{find}
@@ -7,7 +7,7 @@ use Rattle.fx_base.specs.Keys.{by_time}
 use Rattle.fx_store.specs.Store.{IsSound, deleting, has_stamp}
 use Rattle.fx_store.proofs.Sounds.{sound_deleting, found_there}
 use Rattle.fx_snap.specs.Stores.{store_of}
-use Rattle.fx_snap.proofs.Parts.{TakenOut, taken_out}
+use Rattle.fx_snap.proofs.Parts.{taken_out}
 use Rattle.fx_snap.proofs.store.GroupStore.delete.Goals as goal
 
 pub remove-requires : goal.remove-requires
@@ -26,9 +26,8 @@ invariant_of-self c =
     let out = taken_out c.self.inside.pending items c.self.inside.closed c.self.inside.attached c.self.inside.next c.self.inside.depth c.args.stamp c.in-Some.at place.entry c.self.invariant.0 c.self.invariant.1 here place.same in
     let new : c.remove.new.self.items ≡ remove items c.in-Some.at = c.remove.ensures.items in
     let is : store_of c.self.inside.pending c.remove.new.self.items (c.self.inside.closed - 1) c.self.inside.attached c.self.inside.next c.self.inside.depth
-        ≡ deleting c.args.stamp (store_of c.self.inside.pending items c.self.inside.closed c.self.inside.attached c.self.inside.next c.self.inside.depth) =
-        ap (λ es. store_of c.self.inside.pending es (c.self.inside.closed - 1) c.self.inside.attached c.self.inside.next c.self.inside.depth) new ∙ out.deleted in
-    (
+    ≡ deleting c.args.stamp (store_of c.self.inside.pending items c.self.inside.closed c.self.inside.attached c.self.inside.next c.self.inside.depth) =
+    ap (λ es. store_of c.self.inside.pending es (c.self.inside.closed - 1) c.self.inside.attached c.self.inside.next c.self.inside.depth) new ∙ out.deleted in (
       omega (arith, ap length new, out.left),
       subst IsSound (sym is) (sound_deleting (store_of c.self.inside.pending items c.self.inside.closed c.self.inside.attached c.self.inside.next c.self.inside.depth) c.args.stamp c.self.invariant.1),
     )
@@ -48,5 +47,5 @@ returns-in-Some-clause-no_stamp c =
     let place = c.in-Some.ensures in
     let here : is_some (find by_time c.args.stamp (take c.self.inside.closed c.deref.result.now)) ≡ true = found_there c.args.stamp (take c.self.inside.closed c.deref.result.now) c.in-Some.at place.entry place.there place.same in
     let there : has_stamp c.args.stamp c.args.self.now ≡ true =
-        ap (has_stamp c.args.stamp) (sym c.self.view_is) ∙ ap (λ es. is_some (find by_time c.args.stamp (take c.self.inside.closed es))) (sym c.deref.ensures.value) ∙ here in
+    ap (has_stamp c.args.stamp) (sym c.self.view_is) ∙ ap (λ es. is_some (find by_time c.args.stamp (take c.self.inside.closed es))) (sym c.deref.ensures.value) ∙ here in
     (λ clash. absurd cc, λ none. absurd (true≢false (sym there ∙ none)))

@@ -1,9 +1,8 @@
-use Rattle.std.proofs.Common.{◌≡◌, ◌≤◌, ◌∷◌, [], ◌++◌, ◌+ℤ◌, ◌<ℤ◌, pos, length, length-append, length-drop, drop, sym, ap, ◌∙◌, subst, rules, arith}
+use Rattle.std.proofs.Common.{◌≡◌, ◌≤◌, ◌∷◌, [], ◌++◌, ◌+ℤ◌, ◌<ℤ◌, pos, length, length-append, sym, ap, ◌∙◌, subst, rules, arith}
 use Rattle.std.specs.Prelude.{FitsSigned}
 use Rattle.std.specs.Int.{w64, cast_signed, cast_unsigned}
 use Rattle.std.specs.FinMap.{empty}
-use Rattle.fx_base.specs.declared.names.Stamp.{Stamp}
-use Rattle.fx_store.specs.Store.{Store, IsSound, later, committing}
+use Rattle.fx_store.specs.Store.{Store, IsSound, committing}
 use Rattle.fx_store.proofs.Sounds.{sound_committing}
 use Rattle.fx_snap.specs.Stores.{store_of}
 use Rattle.fx_snap.proofs.Parts.{parts_committing, next_later}
@@ -21,8 +20,7 @@ invariant_of-self c =
     let dest : c.replace-pending.new.dest ≡ empty = c.replace-pending.ensures.after ∙ c.new-fresh.ensures in
     let next = next_later s.next.0 fits below in
     let is : store_of c.replace-pending.new.dest c.push.new.self.items s.closed s.attached (record { 0 = cast_signed w64 (cast_unsigned w64 (cast_signed w64 (cast_unsigned w64 s.next.0) +ℤ pos 1)) }) s.depth ≡ committing whole =
-        (λ i. store_of (dest i) (new i) s.closed s.attached (record { 0 = next i }) s.depth) ∙ parts_committing s.pending items s.closed s.attached s.next s.depth c.self.invariant.0 in
-    (
+    (λ i. store_of (dest i) (new i) s.closed s.attached (record { 0 = next i }) s.depth) ∙ parts_committing s.pending items s.closed s.attached s.next s.depth c.self.invariant.0 in (
       omega (arith, ap length new, length-append items ((s.next, s.pending) ∷ []), c.self.invariant.0),
       subst IsSound (sym is) (sound_committing whole room c.self.invariant.1),
     )
