@@ -1,0 +1,3 @@
+pub mod FirstRuns
+pub mod Steps
+pub mod Readings
