@@ -1,0 +1,5 @@
+pub mod State
+pub mod Values
+pub mod Walk
+pub mod Along
+pub mod Callbacks

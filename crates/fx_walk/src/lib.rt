@@ -1,0 +1,11 @@
+//! What the statements of a job mean: the walk of a body from a state, along the answers that it is given. Definitions, laws and
+//! the types that they speak of, no code.
+#![tactic(auto)]
+
+mod action;
+mod printed;
+mod wanted;
+
+pub use action::{At, View};
+pub use printed::{Called, CallbackRun, Printed, Prints};
+pub use wanted::Wanted;
