@@ -3,7 +3,7 @@ use Rattle.std.proofs.Common.{◌≡◌, List, [], ◌∷◌, ◌++◌, refl, ap
 use Rattle.fx_walk.specs.declared.wanted.Wanted.{Wanted}
 use Rattle.fx_walk.specs.State.{State}
 use Rattle.fx_walk.specs.Walk.{Reply, Walk, Ends, Passes, Prints, Asks}
-use Rattle.fx_walk.specs.Along.{Output, Print, Ask, outputs, outputs_from, rest_after, Stop, stop_of}
+use Rattle.fx_walk.specs.Along.{Output, Print, Ask, outputs, outputs_from, rest_after, stop_of}
 
 pub rest_append : (w : Walk) (first more : List Reply) → rest_after w (first ++ more) ≡ rest_after (rest_after w first) more
 rest_append (Ends state) first more = refl

@@ -1,5 +1,5 @@
 -- What a rank keeps for the statements of its job, and what it has when its body begins.
-use Rattle.std.specs.Prelude.{◌≡◌, ℕ, zero, suc, ◌+◌, ℤ, pos, negsuc, Bool, true, false, if◌then◌else◌, List, [], ◌∷◌, ◌++◌, codes, get_or, replicate, slice_set, Option, Some, None, refl}
+use Rattle.std.specs.Prelude.{◌≡◌, ℕ, suc, ◌+◌, ℤ, pos, if◌then◌else◌, List, [], ◌∷◌, ◌++◌, codes, get_or, replicate, slice_set, Option, Some, None, refl}
 use Rattle.std.specs.FinMap.{FinMap, get}
 use Rattle.std.specs.List.{list_any}
 use Rattle.std.specs.Ordering.{nat_cmp}
@@ -87,11 +87,11 @@ at_init f role.Recovered before = blank f
 
 abbrev row_facts : Facts
 row_facts = record {
-    names = decl.Counter (record { line = 5; column = 1 }) (codes "c") ∷ decl.Array (record { line = 6; column = 1 }) (codes "a") (pos 2) ∷ decl.Counter (record { line = 7; column = 1 }) (codes "d") ∷ [];
-    callbacks = [];
-    created = [];
-    attached = []
-  }
+  names = decl.Counter (record { line = 5; column = 1 }) (codes "c") ∷ decl.Array (record { line = 6; column = 1 }) (codes "a") (pos 2) ∷ decl.Counter (record { line = 7; column = 1 }) (codes "d") ∷ [];
+  callbacks = [];
+  created = [];
+  attached = [];
+}
 
 abbrev row_state : State
 row_state = record { counters = pos 4 ∷ pos 5 ∷ []; arrays = (pos 6 ∷ pos 7 ∷ []) ∷ []; callbacks = codes "n" ∷ [] }

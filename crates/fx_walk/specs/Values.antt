@@ -1,5 +1,5 @@
 -- What expressions mean: whole numbers of 64 bits, whose sums, differences and products wrap.
-use Rattle.std.specs.Prelude.{ℕ, zero, suc, ◌+◌, ℤ, pos, negsuc, Bool, true, false, if◌then◌else◌, List, [], ◌∷◌, get_or, int_lt, int_le}
+use Rattle.std.specs.Prelude.{◌≡◌, refl, ℕ, ◌+◌, ℤ, pos, negsuc, Bool, true, false, if◌then◌else◌, List, [], ◌∷◌, get_or, int_lt, int_le}
 use Rattle.std.specs.Int.{w64, int_wrapping_add, int_wrapping_sub, int_wrapping_mul}
 use Rattle.std.specs.Ordering.{int_eq}
 use Rattle.fx_base.specs.declared.names.Op.{Op}
@@ -65,3 +65,22 @@ reduced_with o so_far (n ∷ ns) = reduced_with o (combined o so_far n) ns
 abbrev pub reduced : Op → List ℤ → ℤ
 reduced o [] = pos 0
 reduced o (n ∷ ns) = reduced_with o n ns
+
+-- ---- rows
+
+least_of_three : reduced op.Min (pos 3 ∷ negsuc 1 ∷ pos 5 ∷ []) ≡ negsuc 1
+least_of_three = refl
+
+greatest_of_three : reduced op.Max (negsuc 3 ∷ negsuc 1 ∷ negsuc 5 ∷ []) ≡ negsuc 1
+greatest_of_three = refl
+
+-- 2^63 - 1, 1 and 1 come to -2^63 + 1
+sum_wraps : reduced op.Sum (pos 9223372036854775807 ∷ pos 1 ∷ pos 1 ∷ []) ≡ negsuc 9223372036854775806
+sum_wraps = refl
+
+-- 3 is at most 3, and not below it
+at_most : holds test.Le (pos 3) (pos 3) ≡ true
+at_most = refl
+
+not_below : holds test.Lt (pos 3) (pos 3) ≡ false
+not_below = refl

@@ -1,14 +1,12 @@
 -- The walk of statements: what they print, what they ask of the rank's surroundings, and what they make of the state.
-use Rattle.std.specs.Prelude.{◌≡◌, ℕ, zero, suc, ◌+◌, ◌-◌, ℤ, pos, negsuc, Bool, true, false, if◌then◌else◌, List, [], ◌∷◌, map, length, get_or, Option, Some, None, refl}
+use Rattle.std.specs.Prelude.{◌≡◌, ℕ, zero, suc, ◌+◌, ◌-◌, ℤ, pos, negsuc, Bool, true, false, if◌then◌else◌, List, [], ◌∷◌, map, get_or, Option, Some, None, refl}
 use Rattle.std.specs.FinMap as finite
 use Rattle.std.specs.Ordering.{nat_cmp}
 use Rattle.fx_base.specs.declared.names.GroupId.{GroupId}
 use Rattle.fx_base.specs.declared.names.MemberId.{MemberId}
-use Rattle.fx_base.specs.declared.names.Op.{Op}
 use Rattle.fx_base.specs.declared.names.Role.{Role}
 use Rattle.fx_base.specs.declared.names.Role.TheVariants as role
 use Rattle.fx_base.specs.declared.names.Stamp.{Stamp}
-use Rattle.fx_script.specs.declared.expr.Expr.{Expr}
 use Rattle.fx_script.specs.declared.job.Picked.{Picked}
 use Rattle.fx_script.specs.declared.job.Picked.TheVariants as picked
 use Rattle.fx_script.specs.declared.job.Stmt.{Stmt}

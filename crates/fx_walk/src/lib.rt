@@ -3,9 +3,10 @@
 #![tactic(auto)]
 
 mod action;
+pub mod laws;
 mod printed;
 mod wanted;
 
 pub use action::{At, View};
-pub use printed::{Called, CallbackRun, Printed, Prints};
+pub use printed::{CallbackRun, Called, Printed, Prints};
 pub use wanted::Wanted;

@@ -1,0 +1,312 @@
+-- Worked rows: what bodies print and ask, and where they end.
+use Rattle.std.specs.Prelude.{◌≡◌, ℕ, ℤ, pos, negsuc, List, [], ◌∷◌, codes, Some, None, refl}
+use Rattle.std.specs.FinMap as finite
+use Rattle.std.specs.Ordering.{nat_cmp}
+use Rattle.fx_base.specs.declared.names.Op.TheVariants as op
+use Rattle.fx_base.specs.declared.names.Role.TheVariants as role
+use Rattle.fx_base.specs.declared.spot.Spot.{Spot}
+use Rattle.fx_script.specs.declared.expr.Expr.{Expr}
+use Rattle.fx_script.specs.declared.expr.Expr.TheVariants as expr
+use Rattle.fx_script.specs.declared.job.Decl.{Decl}
+use Rattle.fx_script.specs.declared.job.Decl.TheVariants as decl
+use Rattle.fx_script.specs.declared.job.Picked.TheVariants as picked
+use Rattle.fx_script.specs.declared.job.Stmt.{Stmt}
+use Rattle.fx_script.specs.declared.job.Stmt.TheVariants as stmt
+use Rattle.fx_script.specs.declared.job.Test.TheVariants as test
+use Rattle.fx_subset.specs.Indices.{blocks_of}
+use Rattle.fx_check.specs.Facts.{Facts}
+use Rattle.fx_walk.specs.declared.action.View.{View}
+use Rattle.fx_walk.specs.declared.wanted.Wanted.TheVariants as wanted
+use Rattle.fx_walk.specs.State.{State, blank, restored_from}
+use Rattle.fx_walk.specs.Walk.{Given, Nothing, Number, Elements, Entries, Reply, Walk, Ends, Passes, Prints, walk_of, group_id, member_id, stamp_at}
+use Rattle.fx_walk.specs.Along.{Output, Print, Ask, outputs, AtEnd, AtAsk, stop_of}
+use Rattle.fx_walk.specs.Callbacks.{no_latest, view_at_init, callbacks_at_init, body_start}
+use Rattle.fx_walk.proofs.Steps.{levels}
+
+-- ---- words of the rows
+
+abbrev here : Spot
+here = record { line = 9; column = 1 }
+
+abbrev a : List ℕ
+a = codes "a"
+
+abbrev b : List ℕ
+b = codes "b"
+
+abbrev c : List ℕ
+c = codes "c"
+
+abbrev n : ℤ → Expr
+n value = expr.Number value
+
+abbrev array_decl : List ℕ → ℤ → Decl
+array_decl name len = decl.Array here name len
+
+abbrev counter_decl : List ℕ → Decl
+counter_decl name = decl.Counter here name
+
+abbrev with_names : List Decl → Facts
+with_names names = record { names = names; callbacks = []; created = []; attached = [] }
+
+-- one rank alone, without data groups
+abbrev alone : View
+alone = view_at_init role.Initial 0 1
+
+abbrev prints : List ℕ → List ℤ → Output
+prints name values = Print (record { name = name; values = values })
+
+abbrev print : List ℕ → Stmt
+print name = stmt.Print here name
+
+abbrev set : List ℕ → Expr → Stmt
+set name value = stmt.Set here name value
+
+-- a reply that leaves the stamps as they are where no group has any
+abbrev given : Given → Reply
+given what = record { given = what; latest = no_latest }
+
+-- ---- one rank with plain statements: for c 0 1 / let a + a c / print a / endfor / when survivor / print a / endwhen / print c
+
+abbrev plain_facts : Facts
+plain_facts = with_names (array_decl a (pos 2) ∷ counter_decl c ∷ [])
+
+abbrev plain_body : List Stmt
+plain_body =
+    stmt.Loop here c (n (pos 0)) (pos 1) (stmt.Let here a (expr.Add (expr.Name a) (expr.Name c)) ∷ print a ∷ [])
+    ∷ stmt.RoleOnly here role.Survivor (print a ∷ [])
+    ∷ print c
+    ∷ []
+
+abbrev plain_end : State
+plain_end = record { counters = pos 1 ∷ []; arrays = (pos 1 ∷ pos 1 ∷ []) ∷ []; callbacks = [] }
+
+-- Each plain action is one: three tests of the loop, two `let`, the test of `when`. The ends of blocks are none.
+plain_walk : walk_of plain_facts plain_body alone (blank plain_facts) ≡
+    Passes (Passes (Prints (record { name = a; values = pos 0 ∷ pos 0 ∷ [] }) (Passes (Passes (Prints (record { name = a; values = pos 1 ∷ pos 1 ∷ [] })
+    (Passes (Passes (Prints (record { name = c; values = pos 1 ∷ [] }) (Ends plain_end)))))))))
+plain_walk = simp levels
+
+plain_outputs : outputs (walk_of plain_facts plain_body alone (blank plain_facts)) [] ≡ prints a (pos 0 ∷ pos 0 ∷ []) ∷ prints a (pos 1 ∷ pos 1 ∷ []) ∷ prints c (pos 1 ∷ []) ∷ []
+plain_outputs = simp levels
+
+-- a survivor prints the array once more
+survivor_outputs : outputs (walk_of plain_facts plain_body (record alone { role = role.Survivor }) (blank plain_facts)) []
+    ≡ prints a (pos 0 ∷ pos 0 ∷ []) ∷ prints a (pos 1 ∷ pos 1 ∷ []) ∷ prints a (pos 1 ∷ pos 1 ∷ []) ∷ prints c (pos 1 ∷ []) ∷ []
+survivor_outputs = simp levels
+
+-- ---- two ranks: let a + rank 1 / sum c a / shift a b 1 / print b
+
+abbrev pair_facts : Facts
+pair_facts = with_names (array_decl a (pos 2) ∷ array_decl b (pos 2) ∷ counter_decl c ∷ [])
+
+abbrev pair_body : List Stmt
+pair_body = stmt.Let here a (expr.Add expr.Rank (n (pos 1))) ∷ stmt.Reduce here op.Sum c a ∷ stmt.Shift here a b (pos 1) ∷ print b ∷ []
+
+abbrev pair_walk : ℕ → Walk
+pair_walk rank = walk_of pair_facts pair_body (view_at_init role.Initial rank 2) (blank pair_facts)
+
+second_of_pair : outputs (pair_walk 1) (given (Number (pos 6)) ∷ given (Elements (pos 1 ∷ pos 1 ∷ [])) ∷ [])
+    ≡ Ask (wanted.Reduce op.Sum (pos 4)) ∷ Ask (wanted.Shift 1 (pos 2 ∷ pos 2 ∷ [])) ∷ prints b (pos 1 ∷ pos 1 ∷ []) ∷ []
+second_of_pair = simp levels
+
+first_of_pair : outputs (pair_walk 0) (given (Number (pos 6)) ∷ given (Elements (pos 2 ∷ pos 2 ∷ [])) ∷ [])
+    ≡ Ask (wanted.Reduce op.Sum (pos 2)) ∷ Ask (wanted.Shift 1 (pos 1 ∷ pos 1 ∷ [])) ∷ prints b (pos 2 ∷ pos 2 ∷ []) ∷ []
+first_of_pair = simp levels
+
+-- with one reply it waits at the shift, with the counter set
+waits_at_shift : stop_of (pair_walk 1) (given (Number (pos 6)) ∷ [])
+    ≡ AtAsk (wanted.Shift 1 (pos 2 ∷ pos 2 ∷ [])) (record { counters = pos 6 ∷ []; arrays = (pos 2 ∷ pos 2 ∷ []) ∷ (pos 0 ∷ pos 0 ∷ []) ∷ []; callbacks = [] })
+waits_at_shift = simp levels
+
+-- given nothing, a counter stays, and an array too
+given_nothing : stop_of (pair_walk 1) (given Nothing ∷ given Nothing ∷ [])
+    ≡ AtEnd (record { counters = pos 0 ∷ []; arrays = (pos 2 ∷ pos 2 ∷ []) ∷ (pos 0 ∷ pos 0 ∷ []) ∷ []; callbacks = [] })
+given_nothing = simp levels
+
+-- ---- a data group and a callback: callback note / print a / endcallback, and the body register note / group 0 5 0 / member 0 0 a /
+-- when initial / let a + rank 7 / endwhen / restore 0 0 5 / store 0 0 ranges 1 1 / commitbarrier 0
+
+abbrev note : List ℕ
+note = codes "note"
+
+abbrev group_facts : Facts
+group_facts = record {
+  names = array_decl a (pos 2) ∷ [];
+  callbacks = record { spot = here; name = note; body = print a ∷ [] } ∷ [];
+  created = record { group = pos 0; start = pos 5; depth = pos 0 } ∷ [];
+  attached = record { group = pos 0; member = pos 0; array = a } ∷ [];
+}
+
+abbrev group_body : List Stmt
+group_body =
+    stmt.Register here note
+    ∷ stmt.Group here (pos 0) (pos 5) (pos 0)
+    ∷ stmt.Member here (pos 0) (pos 0) a
+    ∷ stmt.RoleOnly here role.Initial (stmt.Let here a (expr.Add expr.Rank (n (pos 7))) ∷ [])
+    ∷ stmt.Restore here (pos 0) (pos 0) (n (pos 5))
+    ∷ stmt.Store here (pos 0) (pos 0) (picked.Ranges ((pos 1, pos 1) ∷ []))
+    ∷ stmt.CommitBarrier here (pos 0)
+    ∷ []
+
+-- what is asked while the snapshot is stored that maps index 1 to this element
+abbrev group_outputs : ℤ → List Output
+group_outputs element =
+    Ask (wanted.Group (group_id (pos 0)) (stamp_at (pos 5)) 0)
+    ∷ Ask (wanted.Attach (group_id (pos 0)) (member_id (pos 0)))
+    ∷ Ask (wanted.Restore (group_id (pos 0)) (member_id (pos 0)) (stamp_at (pos 5)))
+    ∷ Ask (wanted.Store (group_id (pos 0)) (member_id (pos 0)) (finite.from_sorted ((1, element) ∷ [])))
+    ∷ Ask (wanted.Close (group_id (pos 0)))
+    ∷ []
+
+abbrev first_state : State
+first_state = record { counters = []; arrays = (pos 7 ∷ pos 7 ∷ []) ∷ []; callbacks = note ∷ [] }
+
+abbrev first_epoch : Walk
+first_epoch = walk_of group_facts group_body (view_at_init role.Initial 0 2) (blank group_facts)
+
+first_asks : outputs first_epoch (given Nothing ∷ given Nothing ∷ given Nothing ∷ given Nothing ∷ []) ≡ group_outputs (pos 7)
+first_asks = simp levels
+
+first_stop : stop_of first_epoch (given Nothing ∷ given Nothing ∷ given Nothing ∷ given Nothing ∷ given Nothing ∷ []) ≡ AtEnd first_state
+first_stop = simp levels
+
+-- the survivor that is left runs its callback, and begins with its array
+note_runs : callbacks_at_init group_facts role.Survivor 0 1 first_state ≡ record { name = note; prints = record { name = a; values = pos 7 ∷ pos 7 ∷ [] } ∷ [] } ∷ []
+note_runs = simp levels
+
+note_leaves : body_start group_facts role.Survivor 0 1 first_state ≡ first_state
+note_leaves = simp levels
+
+-- nobody else runs it
+recovered_runs_none : callbacks_at_init group_facts role.Recovered 0 1 first_state ≡ []
+recovered_runs_none = refl
+
+-- callbacks run in the order of registration, each on what the one before left: callback one / let a 1 / endcallback,
+-- callback two / print a / endcallback
+abbrev two_callbacks : Facts
+two_callbacks = record {
+  names = array_decl a (pos 2) ∷ [];
+  callbacks = record { spot = here; name = codes "two"; body = print a ∷ [] } ∷ record { spot = here; name = codes "one"; body = stmt.Let here a (n (pos 1)) ∷ [] } ∷ [];
+  created = [];
+  attached = [];
+}
+
+one_before_two : callbacks_at_init two_callbacks role.Survivor 0 1 (record first_state { callbacks = codes "one" ∷ codes "two" ∷ [] })
+    ≡ record { name = codes "one"; prints = [] } ∷ record { name = codes "two"; prints = record { name = a; values = pos 1 ∷ pos 1 ∷ [] } ∷ [] } ∷ []
+one_before_two = simp levels
+
+-- it isn't `initial` any more, and is given what was stored
+abbrev second_epoch : Walk
+second_epoch = walk_of group_facts group_body (view_at_init role.Survivor 0 1) (body_start group_facts role.Survivor 0 1 first_state)
+
+abbrev stored_before : finite.FinMap nat_cmp ℤ
+stored_before = finite.from_sorted ((1, pos 7) ∷ [])
+
+stored_at : (i : ℕ) → finite.get stored_before i ≡ finite.find nat_cmp i ((1, pos 7) ∷ [])
+stored_at i = finite.get-from_sorted nat_cmp ((1, pos 7) ∷ []) i tt
+
+second_asks : outputs second_epoch (given Nothing ∷ given Nothing ∷ given (Entries stored_before) ∷ given Nothing ∷ []) ≡ group_outputs (pos 7)
+second_asks = simp (levels, stored_at)
+
+-- ---- loops
+
+abbrev counters_alone : Facts
+counters_alone = with_names (counter_decl c ∷ counter_decl (codes "d") ∷ [])
+
+abbrev shown : List Stmt → List Output
+shown statements = outputs (walk_of counters_alone statements alone (blank counters_alone)) []
+
+-- set inside its own loop, a counter has the turn's value again at the next turn, and is left as the last turn set it
+set_inside : shown (stmt.Loop here c (n (pos 0)) (pos 2) (print c ∷ set c (n (pos 7)) ∷ []) ∷ print c ∷ []) ≡ prints c (pos 0 ∷ []) ∷ prints c (pos 1 ∷ []) ∷ prints c (pos 2 ∷ []) ∷ prints c (pos 7 ∷ []) ∷ []
+set_inside = simp levels
+
+-- the first value is computed once: what a turn makes of it changes nothing
+first_once : shown (set c (n (pos 1)) ∷ stmt.Loop here c (expr.Name c) (pos 3) (set c (n (pos 9)) ∷ print c ∷ []) ∷ []) ≡ prints c (pos 9 ∷ []) ∷ prints c (pos 9 ∷ []) ∷ prints c (pos 9 ∷ []) ∷ []
+first_once = simp levels
+
+-- a negative first value is 0
+from_zero : shown (stmt.Loop here c (expr.Sub (n (pos 0)) (n (pos 2))) (pos 1) (print c ∷ []) ∷ []) ≡ prints c (pos 0 ∷ []) ∷ prints c (pos 1 ∷ []) ∷ []
+from_zero = simp levels
+
+-- a loop without a turn leaves its counter
+without_turns : shown (set c (n (pos 5)) ∷ stmt.Loop here c (n (pos 3)) (pos 2) (print c ∷ []) ∷ print c ∷ []) ≡ prints c (pos 5 ∷ []) ∷ []
+without_turns = simp levels
+
+-- ---- branches
+
+abbrev branch : Stmt
+branch = stmt.Branch here test.Le (n (pos 3)) (n (pos 3)) (print c ∷ []) None
+
+abbrev either : Stmt
+either = stmt.Branch here test.Lt (n (pos 3)) (n (pos 3)) (set c (n (pos 1)) ∷ []) (Some (set c (n (pos 2)) ∷ []))
+
+both_ways : shown (branch ∷ either ∷ print c ∷ []) ≡ prints c (pos 0 ∷ []) ∷ prints c (pos 2 ∷ []) ∷ []
+both_ways = simp levels
+
+-- from the end of the first list over `else` there is no action
+over_else : walk_of counters_alone (stmt.Branch here test.Eq (n (pos 3)) (n (pos 3)) (print c ∷ []) (Some (set c (n (pos 2)) ∷ [])) ∷ print c ∷ []) alone (blank counters_alone)
+    ≡ Passes (Prints (record { name = c; values = pos 0 ∷ [] }) (Prints (record { name = c; values = pos 0 ∷ [] }) (Ends (blank counters_alone))))
+over_else = simp levels
+
+-- ---- values
+
+-- 2^63 - 1 and -2^63
+abbrev most : ℤ
+most = pos 9223372036854775807
+
+abbrev least : ℤ
+least = negsuc 9223372036854775807
+
+wraps : shown (set c (expr.Add (n most) (n (pos 1))) ∷ print c ∷ set c (expr.Mul (n (pos 4294967296)) (n (pos 4294967296))) ∷ print c ∷ set c (expr.Sub (n least) (n (pos 1))) ∷ print c ∷ [])
+    ≡ prints c (least ∷ []) ∷ prints c (pos 0 ∷ []) ∷ prints c (most ∷ []) ∷ []
+wraps = simp levels
+
+-- let a * index 2 / let b + a size / let a - b a / print a / print b
+abbrev arrays_alone : Facts
+arrays_alone = with_names (array_decl a (pos 3) ∷ array_decl b (pos 3) ∷ [])
+
+lets : outputs (walk_of arrays_alone
+    (stmt.Let here a (expr.Mul expr.Index (n (pos 2))) ∷ stmt.Let here b (expr.Add (expr.Name a) expr.Size) ∷ stmt.Let here a (expr.Sub (expr.Name b) (expr.Name a)) ∷ print a ∷ print b ∷ [])
+    alone (blank arrays_alone)) []
+    ≡ prints a (pos 1 ∷ pos 1 ∷ pos 1 ∷ []) ∷ prints b (pos 1 ∷ pos 3 ∷ pos 5 ∷ []) ∷ []
+lets = simp levels
+
+-- the newest stamp is -1 until a reply tells another
+abbrev closing : List Stmt
+closing = stmt.Let here a (expr.Latest (pos 0)) ∷ print a ∷ stmt.CommitBarrier here (pos 0) ∷ stmt.Let here a (expr.Latest (pos 0)) ∷ print a ∷ []
+
+newest_stamp : outputs (walk_of plain_facts closing alone (blank plain_facts)) (record { given = Nothing; latest = pos 7 ∷ [] } ∷ [])
+    ≡ prints a (negsuc 0 ∷ negsuc 0 ∷ []) ∷ Ask (wanted.Close (group_id (pos 0))) ∷ prints a (pos 7 ∷ pos 7 ∷ []) ∷ []
+newest_stamp = simp levels
+
+-- ---- stores and restores
+
+-- exactly the indices of the map change, and one past the end changes nothing
+abbrev three_entries : List (ℕ × ℤ)
+three_entries = (0, pos 5) ∷ (2, pos 15) ∷ (3, pos 20) ∷ []
+
+abbrev three_restored : finite.FinMap nat_cmp ℤ
+three_restored = finite.from_sorted three_entries
+
+entry_at : (i : ℕ) → finite.get three_restored i ≡ finite.find nat_cmp i three_entries
+entry_at i = finite.get-from_sorted nat_cmp three_entries i tt
+
+restores_exactly : restored_from 0 three_restored (pos 9 ∷ pos 9 ∷ pos 9 ∷ []) ≡ pos 5 ∷ pos 9 ∷ pos 15 ∷ []
+restores_exactly = simp entry_at
+
+-- a flag is the element at the index, and what is agreed on is set in the counter
+agrees : outputs (walk_of plain_facts (stmt.Agree here c a (pos 1) ∷ print c ∷ []) alone (record { counters = pos 0 ∷ []; arrays = (pos 5 ∷ pos 6 ∷ []) ∷ []; callbacks = [] })) (given (Number (pos 4)) ∷ [])
+    ≡ Ask (wanted.Agree (pos 6)) ∷ prints c (pos 4 ∷ []) ∷ []
+agrees = simp levels
+
+-- a commit and a drop change nothing of the state, whatever they are given
+closes_and_drops : stop_of (walk_of plain_facts (stmt.Commit here (pos 2) ∷ stmt.Drop here (pos 2) (expr.Name c) ∷ []) alone (blank plain_facts)) (given (Number (pos 4)) ∷ [])
+    ≡ AtAsk (wanted.Delete (group_id (pos 2)) (stamp_at (pos 0))) (blank plain_facts)
+closes_and_drops = simp levels
+
+-- two blocks of one index, two apart, of the array that is attached
+stores : outputs (walk_of group_facts (stmt.Store here (pos 0) (pos 0) (picked.Strided (pos 2) (pos 0) (pos 0) (pos 2)) ∷ []) alone (record { counters = []; arrays = (pos 5 ∷ pos 10 ∷ pos 15 ∷ []) ∷ []; callbacks = [] })) []
+    ≡ Ask (wanted.Store (group_id (pos 0)) (member_id (pos 0)) (finite.from_sorted ((0, pos 5) ∷ (2, pos 15) ∷ []))) ∷ []
+unfolding blocks_of
+stores = simp levels
