@@ -1,3 +1,5 @@
-mod Steps
 mod Along
+mod InStep
 mod Rows
+mod Shared
+mod Steps

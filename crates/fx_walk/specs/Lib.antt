@@ -3,3 +3,4 @@ pub mod Values
 pub mod Walk
 pub mod Along
 pub mod Callbacks
+pub mod Plan

@@ -7,6 +7,7 @@ use Rattle.fx_base.specs.declared.names.MemberId.{MemberId}
 use Rattle.fx_base.specs.declared.names.Role.{Role}
 use Rattle.fx_base.specs.declared.names.Role.TheVariants as role
 use Rattle.fx_base.specs.declared.names.Stamp.{Stamp}
+use Rattle.fx_base.specs.declared.spot.Spot.{Spot}
 use Rattle.fx_script.specs.declared.job.Picked.{Picked}
 use Rattle.fx_script.specs.declared.job.Picked.TheVariants as picked
 use Rattle.fx_script.specs.declared.job.Stmt.{Stmt}
@@ -38,12 +39,13 @@ pub record Reply : Type 0 where
 
 -- ---- walks
 
--- What is left of a walk. A plain action that prints nothing passes; a walk ends, or waits for the reply to what it asks, in a state.
+-- What is left of a walk. A plain action that prints nothing passes; a walk ends, or waits at a place of the text for the reply to
+-- what it asks there, in a state.
 pub data Walk : Type 0 where
   Ends : (state : State) → Walk
   Passes : (rest : Walk) → Walk
   Prints : (printed : Printed) (rest : Walk) → Walk
-  Asks : (wanted : Wanted) (state : State) (rest : Reply → Walk) → Walk
+  Asks : (spot : Spot) (wanted : Wanted) (state : State) (rest : Reply → Walk) → Walk
 
 -- the walk from here on, by what is seen and the state
 abbrev pub Onward : Type 0
@@ -140,8 +142,8 @@ keeps state given = state
 abbrev pub view_after : View → Reply → View
 view_after view reply = record view { latest = reply.latest }
 
-abbrev pub asks : Wanted → (Given → State) → Turn
-asks wanted made onward view state = Asks wanted state (λ reply. onward (view_after view reply) (made reply.given))
+abbrev pub asks : Spot → Wanted → (Given → State) → Turn
+asks spot wanted made onward view state = Asks spot wanted state (λ reply. onward (view_after view reply) (made reply.given))
 
 -- ---- statements
 
@@ -157,24 +159,24 @@ walk_level f (Stmt-F.Branch spot test left right body other) onward view state =
     Passes (if holds test (value_of f left (sight view state)) (value_of f right (sight view state)) then in_turn body onward view state else in_turn_if other onward view state)
 walk_level f (Stmt-F.Loop spot counter first last body) onward view state =
     looped f counter (in_turn body) (turns_of (value_of f first (sight view state)) last) (count_of (value_of f first (sight view state))) onward view state
-walk_level f (Stmt-F.Barrier spot) onward view state = asks wanted.Barrier (keeps state) onward view state
+walk_level f (Stmt-F.Barrier spot) onward view state = asks spot wanted.Barrier (keeps state) onward view state
 walk_level f (Stmt-F.Reduce spot o counter array) onward view state =
-    asks (wanted.Reduce o (reduced o (elements_of f state array))) (sets_counter f counter state) onward view state
+    asks spot (wanted.Reduce o (reduced o (elements_of f state array))) (sets_counter f counter state) onward view state
 walk_level f (Stmt-F.Agree spot counter array index) onward view state =
-    asks (wanted.Agree (get_or (elements_of f state array) (count_of index) (pos 0))) (sets_counter f counter state) onward view state
+    asks spot (wanted.Agree (get_or (elements_of f state array) (count_of index) (pos 0))) (sets_counter f counter state) onward view state
 walk_level f (Stmt-F.Shift spot source target by) onward view state =
-    asks (wanted.Shift (count_of by) (elements_of f state source)) (sets_elements f target state) onward view state
+    asks spot (wanted.Shift (count_of by) (elements_of f state source)) (sets_elements f target state) onward view state
 walk_level f (Stmt-F.Group spot group start depth) onward view state =
-    asks (wanted.Group (group_id group) (stamp_at start) (count_of depth)) (keeps state) onward view state
-walk_level f (Stmt-F.Member spot group member array) onward view state = asks (wanted.Attach (group_id group) (member_id member)) (keeps state) onward view state
+    asks spot (wanted.Group (group_id group) (stamp_at start) (count_of depth)) (keeps state) onward view state
+walk_level f (Stmt-F.Member spot group member array) onward view state = asks spot (wanted.Attach (group_id group) (member_id member)) (keeps state) onward view state
 walk_level f (Stmt-F.Store spot group member subset) onward view state =
-    asks (wanted.Store (group_id group) (member_id member) (stored subset (elements_of f state (member_array f group member)))) (keeps state) onward view state
-walk_level f (Stmt-F.Commit spot group) onward view state = asks (wanted.Commit (group_id group)) (keeps state) onward view state
-walk_level f (Stmt-F.CommitBarrier spot group) onward view state = asks (wanted.Close (group_id group)) (keeps state) onward view state
+    asks spot (wanted.Store (group_id group) (member_id member) (stored subset (elements_of f state (member_array f group member)))) (keeps state) onward view state
+walk_level f (Stmt-F.Commit spot group) onward view state = asks spot (wanted.Commit (group_id group)) (keeps state) onward view state
+walk_level f (Stmt-F.CommitBarrier spot group) onward view state = asks spot (wanted.Close (group_id group)) (keeps state) onward view state
 walk_level f (Stmt-F.Restore spot group member stamp) onward view state =
-    asks (wanted.Restore (group_id group) (member_id member) (stamp_at (value_of f stamp (sight view state)))) (sets_entries f (member_array f group member) state) onward view state
+    asks spot (wanted.Restore (group_id group) (member_id member) (stamp_at (value_of f stamp (sight view state)))) (sets_entries f (member_array f group member) state) onward view state
 walk_level f (Stmt-F.Drop spot group stamp) onward view state =
-    asks (wanted.Delete (group_id group) (stamp_at (value_of f stamp (sight view state)))) (keeps state) onward view state
+    asks spot (wanted.Delete (group_id group) (stamp_at (value_of f stamp (sight view state)))) (keeps state) onward view state
 
 abbrev pub walk : Facts → Stmt → Turn
 walk f = fold-Stmt Turn (walk_level f)
