@@ -1,5 +1,5 @@
 -- Each rank's walk of a body that keeps the rules keeps to one plan.
-use Rattle.std.proofs.Common.{◌≡◌, ℕ, zero, suc, ◌+◌, Bool, true, false, not, ◌&&◌, List, [], ◌∷◌, ◌++◌, map, Option, Some, None, ◌⊎◌, inl, inr, refl, ap, sym, subst, ◌∙◌}
+use Rattle.std.proofs.Common.{◌≡◌, ℕ, zero, suc, ◌+◌, Bool, true, false, not, ◌&&◌, List, [], ◌∷◌, ◌++◌, map, Option, Some, None, refl, ap, sym, subst, ◌∙◌}
 use Rattle.std.specs.Prelude.{ℤ, pos, if◌then◌else◌}
 use Rattle.std.specs.List.{AllByRecursion}
 use Rattle.std.proofs.lemmas.Bool.{and_parts}
@@ -57,14 +57,14 @@ abbrev Rests : Onward → Plan → View → List ℤ → Type 0
 Rests k u view cs = (state : State) → state.counters ≡ cs → Keeps (k view state) u view.latest
 
 abbrev IsQuiet : Facts → Stmt → Type 0
-IsQuiet f s = (p : Surroundings) → p.in_when ≡ true → KeepRules (stmt_lines f s p) → (k : Onward) (u : Plan) (view : View) (cs : List ℤ) → Rests k u view cs → Rests (walk f s k) u view cs
+IsQuiet f s = (p : Surroundings) → p.in_when ≡ true → KeepRules (stmt_lines f s p) → (k : Onward) (u : Plan) (view : View) (cs : List ℤ) → Rests k u view cs → Rests (walk f s true k) u view cs
 
 quiet_rolled : (f : Facts) (x : Stmt-F Stmt)
     → ((p : Surroundings) → p.in_when ≡ true → KeepRules (stmt_lines_level f (map-Stmt Stmt (Surroundings → List Line) (stmt_lines f) x) p) → (k : Onward) (u : Plan) (view : View) (cs : List ℤ) → Rests k u view cs
-        → Rests (walk_level f (map-Stmt Stmt Turn (walk f) x) k) u view cs)
+        → Rests (walk_level f (map-Stmt Stmt Turn (walk f) x) true k) u view cs)
     → IsQuiet f (roll-Stmt x)
 quiet_rolled f x level p inside keep k u view cs rests =
-    subst (λ (t : Turn). Rests (t k) u view cs) (sym (fold-roll-Stmt Turn (walk_level f) x))
+    subst (λ (t : Turn). Rests (t true k) u view cs) (sym (fold-roll-Stmt Turn (walk_level f) x))
     (level p inside (subst (λ (l : Surroundings → List Line). KeepRules (l p)) (fold-roll-Stmt (Surroundings → List Line) (stmt_lines_level f) x) keep) k u view cs rests)
 
 not_true : (b : Bool) → b ≡ true → not b ≡ true → ⊥
@@ -80,11 +80,11 @@ either true x y u latest one other = one
 either false x y u latest one other = other
 
 quiet_list : (f : Facts) (ts : List ((s : Stmt) × IsQuiet f s)) (p : Surroundings) → p.in_when ≡ true → KeepRules (lines_at (map (stmt_lines f) (map (λ t. t.0) ts)) p)
-    → (k : Onward) (u : Plan) (view : View) (cs : List ℤ) → Rests k u view cs → Rests (in_turn (map (walk f) (map (λ t. t.0) ts)) k) u view cs
+    → (k : Onward) (u : Plan) (view : View) (cs : List ℤ) → Rests k u view cs → Rests (in_turn (map (walk f) (map (λ t. t.0) ts)) true k) u view cs
 quiet_list f [] p inside keep k u view cs rests = rests
 quiet_list f (t ∷ ts) p inside keep k u view cs rests =
     let later = lines_at (map (stmt_lines f) (map (λ (t : (s : Stmt) × IsQuiet f s). t.0) ts)) p in
-    t.1 p inside (all_front KeepsRules (stmt_lines f t.0 p) later keep) (in_turn (map (walk f) (map (λ (t : (s : Stmt) × IsQuiet f s). t.0) ts)) k) u view cs
+    t.1 p inside (all_front KeepsRules (stmt_lines f t.0 p) later keep) (in_turn (map (walk f) (map (λ (t : (s : Stmt) × IsQuiet f s). t.0) ts)) true k) u view cs
         (quiet_list f ts p inside (all_behind KeepsRules (stmt_lines f t.0 p) later keep) k u view cs rests)
 
 quiet_level : (f : Facts) (y : Stmt-F ((s : Stmt) × IsQuiet f s)) → IsQuiet f (roll-Stmt (map-Stmt ((s : Stmt) × IsQuiet f s) Stmt (λ t. t.0) y))
@@ -95,10 +95,10 @@ quiet_level f (Stmt-F.Register spot name) = quiet_rolled f (Stmt-F.Register spot
 quiet_level f (Stmt-F.RoleOnly spot role ts) = quiet_rolled f (Stmt-F.RoleOnly spot role (map (λ t. t.0) ts))
     (λ p inside keep k u view cs rests v e. either (is_same_role role view.role) _ _ u view.latest (quiet_list f ts (inside_when p) refl keep.1 k u view cs rests v e) (rests v e))
 quiet_level f (Stmt-F.Branch spot test left right ts None) = quiet_rolled f (Stmt-F.Branch spot test left right (map (λ t. t.0) ts) None)
-    (λ p inside keep k u view cs rests v e. either (holds test (value_of f left (sight view v)) (value_of f right (sight view v))) (in_turn (map (walk f) (map (λ t. t.0) ts)) k view v) (k view v) u view.latest
+    (λ p inside keep k u view cs rests v e. either (holds test (value_of f left (sight view v)) (value_of f right (sight view v))) (in_turn (map (walk f) (map (λ t. t.0) ts)) true k view v) (k view v) u view.latest
         (quiet_list f ts (inside_if p) inside (all_front KeepsRules _ [] keep.1) k u view cs rests v e) (rests v e))
 quiet_level f (Stmt-F.Branch spot test left right ts (Some us)) = quiet_rolled f (Stmt-F.Branch spot test left right (map (λ t. t.0) ts) (Some (map (λ t. t.0) us)))
-    (λ p inside keep k u view cs rests v e. either (holds test (value_of f left (sight view v)) (value_of f right (sight view v))) (in_turn (map (walk f) (map (λ t. t.0) ts)) k view v) (in_turn (map (walk f) (map (λ t. t.0) us)) k view v) u view.latest
+    (λ p inside keep k u view cs rests v e. either (holds test (value_of f left (sight view v)) (value_of f right (sight view v))) (in_turn (map (walk f) (map (λ t. t.0) ts)) true k view v) (in_turn (map (walk f) (map (λ t. t.0) us)) true k view v) u view.latest
         (quiet_list f ts (inside_if p) inside (all_front KeepsRules _ _ keep.1) k u view cs rests v e)
         (quiet_list f us (inside_if p) inside (all_behind KeepsRules _ _ keep.1) k u view cs rests v e))
 quiet_level f (Stmt-F.Loop spot counter first last ts) = quiet_rolled f (Stmt-F.Loop spot counter first last (map (λ t. t.0) ts)) (λ p inside keep k u view cs rests v e. absurd (not_true p.in_when inside (and_parts (not p.in_when) (expr_uniform f first) keep.0.uniform).0))
@@ -107,23 +107,23 @@ quiet_level f (Stmt-F.Reduce spot o counter array) = quiet_rolled f (Stmt-F.Redu
 quiet_level f (Stmt-F.Agree spot counter array index) = quiet_rolled f (Stmt-F.Agree spot counter array index) (λ p inside keep k u view cs rests v e. absurd (not_for_all p.in_when _ inside keep.0.placed))
 quiet_level f (Stmt-F.Shift spot source target by) = quiet_rolled f (Stmt-F.Shift spot source target by) (λ p inside keep k u view cs rests v e. absurd (not_for_all p.in_when _ inside keep.0.placed))
 quiet_level f (Stmt-F.Group spot group start depth) = quiet_rolled f (Stmt-F.Group spot group start depth) (λ p inside keep k u view cs rests v e. absurd (not_for_all p.in_when _ inside keep.0.placed))
-quiet_level f (Stmt-F.Member spot group member array) = quiet_rolled f (Stmt-F.Member spot group member array) (λ p inside keep k u view cs rests v e. inr (refl, λ g. rests v e))
-quiet_level f (Stmt-F.Store spot group member subset) = quiet_rolled f (Stmt-F.Store spot group member subset) (λ p inside keep k u view cs rests v e. inr (refl, λ g. rests v e))
+quiet_level f (Stmt-F.Member spot group member array) = quiet_rolled f (Stmt-F.Member spot group member array) (λ p inside keep k u view cs rests v e. (refl, λ g. rests v e))
+quiet_level f (Stmt-F.Store spot group member subset) = quiet_rolled f (Stmt-F.Store spot group member subset) (λ p inside keep k u view cs rests v e. (refl, λ g. rests v e))
 quiet_level f (Stmt-F.Commit spot group) = quiet_rolled f (Stmt-F.Commit spot group) (λ p inside keep k u view cs rests v e. absurd (not_for_all p.in_when _ inside keep.0.placed))
 quiet_level f (Stmt-F.CommitBarrier spot group) = quiet_rolled f (Stmt-F.CommitBarrier spot group) (λ p inside keep k u view cs rests v e. absurd (not_for_all p.in_when _ inside keep.0.placed))
 quiet_level f (Stmt-F.Restore spot group member stamp) = quiet_rolled f (Stmt-F.Restore spot group member stamp)
-    (λ p inside keep k u view cs rests v e. inr (refl, λ g. rests _ (entries_aside f (member_array f group member) v g ∙ e)))
+    (λ p inside keep k u view cs rests v e. (refl, λ g. rests _ (entries_aside f (member_array f group member) v g ∙ e)))
 quiet_level f (Stmt-F.Drop spot group stamp) = quiet_rolled f (Stmt-F.Drop spot group stamp) (λ p inside keep k u view cs rests v e. absurd (not_for_all p.in_when _ inside keep.0.placed))
 
 quiet : (f : Facts) (s : Stmt) → IsQuiet f s
 quiet f = ind-Stmt (IsQuiet f) (λ x y is. subst (λ x. IsQuiet f (roll-Stmt x)) is (quiet_level f y))
 
 quiets : (f : Facts) (ss : List Stmt) (p : Surroundings) → p.in_when ≡ true → KeepRules (lines_at (map (stmt_lines f) ss) p)
-    → (k : Onward) (u : Plan) (view : View) (cs : List ℤ) → Rests k u view cs → Rests (in_turn (map (walk f) ss) k) u view cs
+    → (k : Onward) (u : Plan) (view : View) (cs : List ℤ) → Rests k u view cs → Rests (in_turn (map (walk f) ss) true k) u view cs
 quiets f [] p inside keep k u view cs rests = rests
 quiets f (s ∷ ss) p inside keep k u view cs rests =
     let later = lines_at (map (stmt_lines f) ss) p in
-    quiet f s p inside (all_front KeepsRules (stmt_lines f s p) later keep) (in_turn (map (walk f) ss) k) u view cs (quiets f ss p inside (all_behind KeepsRules (stmt_lines f s p) later keep) k u view cs rests)
+    quiet f s p inside (all_front KeepsRules (stmt_lines f s p) later keep) (in_turn (map (walk f) ss) true k) u view cs (quiets f ss p inside (all_behind KeepsRules (stmt_lines f s p) later keep) k u view cs rests)
 
 -- ---- outside `when`
 
@@ -131,24 +131,24 @@ abbrev Alike : Onward → PlanOnward → Type 0
 Alike k pk = (view : View) (state : State) → Keeps (k view state) (pk (shared_of view state)) view.latest
 
 abbrev IsPlanned : Facts → Stmt → Type 0
-IsPlanned f s = (p : Surroundings) → p.in_when ≡ false → KeepRules (stmt_lines f s p) → (k : Onward) (pk : PlanOnward) → Alike k pk → Alike (walk f s k) (plan f s pk)
+IsPlanned f s = (p : Surroundings) → p.in_when ≡ false → KeepRules (stmt_lines f s p) → (k : Onward) (pk : PlanOnward) → Alike k pk → Alike (walk f s false k) (plan f s pk)
 
 planned_rolled : (f : Facts) (x : Stmt-F Stmt)
     → ((p : Surroundings) → p.in_when ≡ false → KeepRules (stmt_lines_level f (map-Stmt Stmt (Surroundings → List Line) (stmt_lines f) x) p) → (k : Onward) (pk : PlanOnward) → Alike k pk
-        → Alike (walk_level f (map-Stmt Stmt Turn (walk f) x) k) (plan_level f (map-Stmt Stmt PlanTurn (plan f) x) pk))
+        → Alike (walk_level f (map-Stmt Stmt Turn (walk f) x) false k) (plan_level f (map-Stmt Stmt PlanTurn (plan f) x) pk))
     → IsPlanned f (roll-Stmt x)
 planned_rolled f x level p inside keep k pk alike =
-    subst (λ (t : Turn). Alike (t k) (plan f (roll-Stmt x) pk)) (sym (fold-roll-Stmt Turn (walk_level f) x))
-    (subst (λ (t : PlanTurn). Alike (walk_level f (map-Stmt Stmt Turn (walk f) x) k) (t pk)) (sym (fold-roll-Stmt PlanTurn (plan_level f) x))
+    subst (λ (t : Turn). Alike (t false k) (plan f (roll-Stmt x) pk)) (sym (fold-roll-Stmt Turn (walk_level f) x))
+    (subst (λ (t : PlanTurn). Alike (walk_level f (map-Stmt Stmt Turn (walk f) x) false k) (t pk)) (sym (fold-roll-Stmt PlanTurn (plan_level f) x))
     (level p inside (subst (λ (l : Surroundings → List Line). KeepRules (l p)) (fold-roll-Stmt (Surroundings → List Line) (stmt_lines_level f) x) keep) k pk alike))
 
 planned_list : (f : Facts) (ts : List ((s : Stmt) × IsPlanned f s)) (p : Surroundings) → p.in_when ≡ false → KeepRules (lines_at (map (stmt_lines f) (map (λ t. t.0) ts)) p)
-    → (k : Onward) (pk : PlanOnward) → Alike k pk → Alike (in_turn (map (walk f) (map (λ t. t.0) ts)) k) (planned (map (plan f) (map (λ t. t.0) ts)) pk)
+    → (k : Onward) (pk : PlanOnward) → Alike k pk → Alike (in_turn (map (walk f) (map (λ t. t.0) ts)) false k) (planned (map (plan f) (map (λ t. t.0) ts)) pk)
 planned_list f [] p inside keep k pk alike = alike
 planned_list f (t ∷ ts) p inside keep k pk alike =
     let ss = map (λ (t : (s : Stmt) × IsPlanned f s). t.0) ts in
     let later = lines_at (map (stmt_lines f) ss) p in
-    t.1 p inside (all_front KeepsRules (stmt_lines f t.0 p) later keep) (in_turn (map (walk f) ss) k) (planned (map (plan f) ss) pk)
+    t.1 p inside (all_front KeepsRules (stmt_lines f t.0 p) later keep) (in_turn (map (walk f) ss) false k) (planned (map (plan f) ss) pk)
         (planned_list f ts p inside (all_behind KeepsRules (stmt_lines f t.0 p) later keep) k pk alike)
 
 -- the two sides of a test that is the same
@@ -158,11 +158,11 @@ tested test a b c d e g x y m n latest one other = subst (λ (t : Bool). Keeps (
   sides true = one
   sides false = other
 
-turns_planned : (f : Facts) (counter : List ℕ) (body : Turn) (plan_body : PlanTurn) → ((k : Onward) (pk : PlanOnward) → Alike k pk → Alike (body k) (plan_body pk))
-    → (n value : ℕ) (k : Onward) (pk : PlanOnward) → Alike k pk → Alike (looped f counter body n value k) (plan_looped f counter plan_body n value pk)
+turns_planned : (f : Facts) (counter : List ℕ) (body : Turn) (plan_body : PlanTurn) → ((k : Onward) (pk : PlanOnward) → Alike k pk → Alike (body false k) (plan_body pk))
+    → (n value : ℕ) (k : Onward) (pk : PlanOnward) → Alike k pk → Alike (looped f counter body n value false k) (plan_looped f counter plan_body n value pk)
 turns_planned f counter body plan_body inner zero value k pk alike view state = alike view state
 turns_planned f counter body plan_body inner (suc n) value k pk alike view state =
-    inner (looped f counter body n (value + 1) k) (plan_looped f counter plan_body n (value + 1) pk) (turns_planned f counter body plan_body inner n (value + 1) k pk alike) view (with_counter f state counter (pos value))
+    inner (looped f counter body n (value + 1) false k) (plan_looped f counter plan_body n (value + 1) pk) (turns_planned f counter body plan_body inner n (value + 1) k pk alike) view (with_counter f state counter (pos value))
 
 -- what comes after a statement that leaves the counters
 after_same : (k : Onward) (pk : PlanOnward) → Alike k pk → (view : View) (shared : Shared) (state : State) → state.counters ≡ shared.counters → shared.size ≡ view.size → (latest : List ℤ)
@@ -193,7 +193,7 @@ planned_level f (Stmt-F.Branch spot test left right ts None) = planned_rolled f 
         let shared = shared_of view state in
         tested test (value_of f left (sight view state)) (value_of f right (sight view state)) (value_of f left (shared_sight shared)) (value_of f right (shared_sight shared))
             (uniform_value f left both.0 view state) (uniform_value f right both.1 view state)
-            (in_turn (map (walk f) (map (λ t. t.0) ts)) k view state) (k view state) (planned (map (plan f) (map (λ t. t.0) ts)) pk shared) (pk shared) view.latest
+            (in_turn (map (walk f) (map (λ t. t.0) ts)) false k view state) (k view state) (planned (map (plan f) (map (λ t. t.0) ts)) pk shared) (pk shared) view.latest
         (planned_list f ts (inside_if p) inside (all_front KeepsRules _ [] keep.1) k pk alike view state) (alike view state))
 planned_level f (Stmt-F.Branch spot test left right ts (Some us)) = planned_rolled f (Stmt-F.Branch spot test left right (map (λ t. t.0) ts) (Some (map (λ t. t.0) us)))
     (λ p inside keep k pk alike view state.
@@ -201,7 +201,7 @@ planned_level f (Stmt-F.Branch spot test left right ts (Some us)) = planned_roll
         let shared = shared_of view state in
         tested test (value_of f left (sight view state)) (value_of f right (sight view state)) (value_of f left (shared_sight shared)) (value_of f right (shared_sight shared))
             (uniform_value f left both.0 view state) (uniform_value f right both.1 view state)
-            (in_turn (map (walk f) (map (λ t. t.0) ts)) k view state) (in_turn (map (walk f) (map (λ t. t.0) us)) k view state)
+            (in_turn (map (walk f) (map (λ t. t.0) ts)) false k view state) (in_turn (map (walk f) (map (λ t. t.0) us)) false k view state)
             (planned (map (plan f) (map (λ t. t.0) ts)) pk shared) (planned (map (plan f) (map (λ t. t.0) us)) pk shared) view.latest
         (planned_list f ts (inside_if p) inside (all_front KeepsRules _ _ keep.1) k pk alike view state) (planned_list f us (inside_if p) inside (all_behind KeepsRules _ _ keep.1) k pk alike view state))
 planned_level f (Stmt-F.Loop spot counter first last ts) = planned_rolled f (Stmt-F.Loop spot counter first last (map (λ t. t.0) ts))
@@ -209,32 +209,32 @@ planned_level f (Stmt-F.Loop spot counter first last ts) = planned_rolled f (Stm
         let body = in_turn (map (walk f) (map (λ (t : (s : Stmt) × IsPlanned f s). t.0) ts)) in
         let plan_body = planned (map (plan f) (map (λ (t : (s : Stmt) × IsPlanned f s). t.0) ts)) in
         let from = value_of f first (sight view state) in
-        subst (λ (n : ℤ). Keeps (looped f counter body (turns_of from last) (count_of from) k view state) (plan_looped f counter plan_body (turns_of n last) (count_of n) pk (shared_of view state)) view.latest)
+        subst (λ (n : ℤ). Keeps (looped f counter body (turns_of from last) (count_of from) false k view state) (plan_looped f counter plan_body (turns_of n last) (count_of n) pk (shared_of view state)) view.latest)
         (uniform_value f first (and_parts (not p.in_when) (expr_uniform f first) keep.0.uniform).1 view state)
         (turns_planned f counter body plan_body (λ k pk alike. planned_list f ts (inside_for p) inside keep.1 k pk alike) (turns_of from last) (count_of from) k pk alike view state))
-planned_level f (Stmt-F.Barrier spot) = planned_rolled f (Stmt-F.Barrier spot) (λ p inside keep k pk alike view state. inl (refl, refl, refl, λ reply. alike (view_after view reply) state))
-planned_level f (Stmt-F.Reduce spot o counter array) = planned_rolled f (Stmt-F.Reduce spot o counter array) (λ p inside keep k pk alike view state. inl (refl, refl, refl, λ reply. after_number f counter k pk alike view state reply))
-planned_level f (Stmt-F.Agree spot counter array index) = planned_rolled f (Stmt-F.Agree spot counter array index) (λ p inside keep k pk alike view state. inl (refl, refl, refl, λ reply. after_number f counter k pk alike view state reply))
+planned_level f (Stmt-F.Barrier spot) = planned_rolled f (Stmt-F.Barrier spot) (λ p inside keep k pk alike view state. (refl, refl, refl, λ reply. alike (view_after view reply) state))
+planned_level f (Stmt-F.Reduce spot o counter array) = planned_rolled f (Stmt-F.Reduce spot o counter array) (λ p inside keep k pk alike view state. (refl, refl, refl, λ reply. after_number f counter k pk alike view state reply))
+planned_level f (Stmt-F.Agree spot counter array index) = planned_rolled f (Stmt-F.Agree spot counter array index) (λ p inside keep k pk alike view state. (refl, refl, refl, λ reply. after_number f counter k pk alike view state reply))
 planned_level f (Stmt-F.Shift spot source target by) = planned_rolled f (Stmt-F.Shift spot source target by)
-    (λ p inside keep k pk alike view state. inl (refl, refl, refl, λ reply. after_same k pk alike view (shared_of view state) (sets_elements f target state reply.given) (elements_aside f target state reply.given) refl reply.latest))
-planned_level f (Stmt-F.Group spot group start depth) = planned_rolled f (Stmt-F.Group spot group start depth) (λ p inside keep k pk alike view state. inl (refl, refl, refl, λ reply. alike (view_after view reply) state))
-planned_level f (Stmt-F.Member spot group member array) = planned_rolled f (Stmt-F.Member spot group member array) (λ p inside keep k pk alike view state. inl (refl, refl, refl, λ reply. alike (view_after view reply) state))
-planned_level f (Stmt-F.Store spot group member subset) = planned_rolled f (Stmt-F.Store spot group member subset) (λ p inside keep k pk alike view state. inl (refl, refl, refl, λ reply. alike (view_after view reply) state))
-planned_level f (Stmt-F.Commit spot group) = planned_rolled f (Stmt-F.Commit spot group) (λ p inside keep k pk alike view state. inl (refl, refl, refl, λ reply. alike (view_after view reply) state))
-planned_level f (Stmt-F.CommitBarrier spot group) = planned_rolled f (Stmt-F.CommitBarrier spot group) (λ p inside keep k pk alike view state. inl (refl, refl, refl, λ reply. alike (view_after view reply) state))
+    (λ p inside keep k pk alike view state. (refl, refl, refl, λ reply. after_same k pk alike view (shared_of view state) (sets_elements f target state reply.given) (elements_aside f target state reply.given) refl reply.latest))
+planned_level f (Stmt-F.Group spot group start depth) = planned_rolled f (Stmt-F.Group spot group start depth) (λ p inside keep k pk alike view state. (refl, refl, refl, λ reply. alike (view_after view reply) state))
+planned_level f (Stmt-F.Member spot group member array) = planned_rolled f (Stmt-F.Member spot group member array) (λ p inside keep k pk alike view state. (refl, refl, refl, λ reply. alike (view_after view reply) state))
+planned_level f (Stmt-F.Store spot group member subset) = planned_rolled f (Stmt-F.Store spot group member subset) (λ p inside keep k pk alike view state. (refl, refl, refl, λ reply. alike (view_after view reply) state))
+planned_level f (Stmt-F.Commit spot group) = planned_rolled f (Stmt-F.Commit spot group) (λ p inside keep k pk alike view state. (refl, refl, refl, λ reply. alike (view_after view reply) state))
+planned_level f (Stmt-F.CommitBarrier spot group) = planned_rolled f (Stmt-F.CommitBarrier spot group) (λ p inside keep k pk alike view state. (refl, refl, refl, λ reply. alike (view_after view reply) state))
 planned_level f (Stmt-F.Restore spot group member stamp) = planned_rolled f (Stmt-F.Restore spot group member stamp)
-    (λ p inside keep k pk alike view state. inl (refl, ap (λ (n : ℤ). Restore (group_id group) (member_id member) (stamp_at n)) (uniform_value f stamp keep.0.uniform view state), refl,
+    (λ p inside keep k pk alike view state. (refl, ap (λ (n : ℤ). Restore (group_id group) (member_id member) (stamp_at n)) (uniform_value f stamp keep.0.uniform view state), refl,
         λ reply. after_same k pk alike view (shared_of view state) (sets_entries f (member_array f group member) state reply.given) (entries_aside f (member_array f group member) state reply.given) refl reply.latest))
 planned_level f (Stmt-F.Drop spot group stamp) = planned_rolled f (Stmt-F.Drop spot group stamp)
-    (λ p inside keep k pk alike view state. inl (refl, ap (λ (n : ℤ). Delete (group_id group) (stamp_at n)) (uniform_value f stamp keep.0.uniform view state), refl, λ reply. alike (view_after view reply) state))
+    (λ p inside keep k pk alike view state. (refl, ap (λ (n : ℤ). Delete (group_id group) (stamp_at n)) (uniform_value f stamp keep.0.uniform view state), refl, λ reply. alike (view_after view reply) state))
 
 all_planned : (f : Facts) (s : Stmt) → IsPlanned f s
 all_planned f = ind-Stmt (IsPlanned f) (λ x y is. subst (λ x. IsPlanned f (roll-Stmt x)) is (planned_level f y))
 
-lists_planned : (f : Facts) (ss : List Stmt) (p : Surroundings) → p.in_when ≡ false → KeepRules (stmts_lines f ss p) → (k : Onward) (pk : PlanOnward) → Alike k pk → Alike (walks f ss k) (plans f ss pk)
+lists_planned : (f : Facts) (ss : List Stmt) (p : Surroundings) → p.in_when ≡ false → KeepRules (stmts_lines f ss p) → (k : Onward) (pk : PlanOnward) → Alike k pk → Alike (walks f ss false k) (plans f ss pk)
 lists_planned f [] p inside keep k pk alike = alike
 lists_planned f (s ∷ ss) p inside keep k pk alike =
-    all_planned f s p inside (all_front KeepsRules (stmt_lines f s p) (stmts_lines f ss p) keep) (walks f ss k) (plans f ss pk)
+    all_planned f s p inside (all_front KeepsRules (stmt_lines f s p) (stmts_lines f ss p) keep) (walks f ss false k) (plans f ss pk)
     (lists_planned f ss p inside (all_behind KeepsRules (stmt_lines f s p) (stmts_lines f ss p) keep) k pk alike)
 
 -- each rank's walk of a body that keeps the rules keeps to the body's plan

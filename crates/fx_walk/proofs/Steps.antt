@@ -1,5 +1,5 @@
 -- One level of the walk of each statement, and of the value of each expression.
-use Rattle.std.proofs.Common.{◌≡◌, ℕ, List, map, Some, None, ap, sym, ◌∙◌}
+use Rattle.std.proofs.Common.{◌≡◌, ℕ, Bool, List, map, Some, None, ap, sym, ◌∙◌}
 use Rattle.std.specs.Prelude.{ℤ}
 use Rattle.fx_base.specs.declared.names.Op.{Op}
 use Rattle.fx_base.specs.declared.names.Role.{Role}
@@ -22,84 +22,84 @@ use Rattle.fx_walk.specs.State.{State}
 use Rattle.fx_walk.specs.Values.{Sight, value_level, value_of}
 use Rattle.fx_walk.specs.Walk.{Onward, Turn, walk_level, walk}
 
-walking : (f : Facts) (x : Stmt-F Stmt) (s : Stmt) → roll-Stmt x ≡ s → (k : Onward) (view : View) (state : State) → walk f s k view state ≡ walk_level f (map-Stmt Stmt Turn (walk f) x) k view state
-walking f x s is k view state = ap (λ (t : Turn). t k view state) (ap (walk f) (sym is) ∙ fold-roll-Stmt Turn (walk_level f) x)
+walking : (f : Facts) (x : Stmt-F Stmt) (s : Stmt) → roll-Stmt x ≡ s → (inside : Bool) (k : Onward) (view : View) (state : State) → walk f s inside k view state ≡ walk_level f (map-Stmt Stmt Turn (walk f) x) inside k view state
+walking f x s is inside k view state = ap (λ (t : Turn). t inside k view state) (ap (walk f) (sym is) ∙ fold-roll-Stmt Turn (walk_level f) x)
 
-pub let_at : (f : Facts) (spot : Spot) (array : List ℕ) (value : Expr) (k : Onward) (view : View) (state : State)
-    → walk f (stmt.Let spot array value) k view state ≡ walk_level f (Stmt-F.Let spot array value) k view state
-let_at f spot array value k view state = walking f (Stmt-F.Let spot array value) (stmt.Let spot array value) (stmt.rolls-Let spot array value) k view state
+pub let_at : (f : Facts) (spot : Spot) (array : List ℕ) (value : Expr) (inside : Bool) (k : Onward) (view : View) (state : State)
+    → walk f (stmt.Let spot array value) inside k view state ≡ walk_level f (Stmt-F.Let spot array value) inside k view state
+let_at f spot array value inside k view state = walking f (Stmt-F.Let spot array value) (stmt.Let spot array value) (stmt.rolls-Let spot array value) inside k view state
 
-pub set_at : (f : Facts) (spot : Spot) (counter : List ℕ) (value : Expr) (k : Onward) (view : View) (state : State)
-    → walk f (stmt.Set spot counter value) k view state ≡ walk_level f (Stmt-F.Set spot counter value) k view state
-set_at f spot counter value k view state = walking f (Stmt-F.Set spot counter value) (stmt.Set spot counter value) (stmt.rolls-Set spot counter value) k view state
+pub set_at : (f : Facts) (spot : Spot) (counter : List ℕ) (value : Expr) (inside : Bool) (k : Onward) (view : View) (state : State)
+    → walk f (stmt.Set spot counter value) inside k view state ≡ walk_level f (Stmt-F.Set spot counter value) inside k view state
+set_at f spot counter value inside k view state = walking f (Stmt-F.Set spot counter value) (stmt.Set spot counter value) (stmt.rolls-Set spot counter value) inside k view state
 
-pub print_at : (f : Facts) (spot : Spot) (name : List ℕ) (k : Onward) (view : View) (state : State)
-    → walk f (stmt.Print spot name) k view state ≡ walk_level f (Stmt-F.Print spot name) k view state
-print_at f spot name k view state = walking f (Stmt-F.Print spot name) (stmt.Print spot name) (stmt.rolls-Print spot name) k view state
+pub print_at : (f : Facts) (spot : Spot) (name : List ℕ) (inside : Bool) (k : Onward) (view : View) (state : State)
+    → walk f (stmt.Print spot name) inside k view state ≡ walk_level f (Stmt-F.Print spot name) inside k view state
+print_at f spot name inside k view state = walking f (Stmt-F.Print spot name) (stmt.Print spot name) (stmt.rolls-Print spot name) inside k view state
 
-pub register_at : (f : Facts) (spot : Spot) (name : List ℕ) (k : Onward) (view : View) (state : State)
-    → walk f (stmt.Register spot name) k view state ≡ walk_level f (Stmt-F.Register spot name) k view state
-register_at f spot name k view state = walking f (Stmt-F.Register spot name) (stmt.Register spot name) (stmt.rolls-Register spot name) k view state
+pub register_at : (f : Facts) (spot : Spot) (name : List ℕ) (inside : Bool) (k : Onward) (view : View) (state : State)
+    → walk f (stmt.Register spot name) inside k view state ≡ walk_level f (Stmt-F.Register spot name) inside k view state
+register_at f spot name inside k view state = walking f (Stmt-F.Register spot name) (stmt.Register spot name) (stmt.rolls-Register spot name) inside k view state
 
-pub when_at : (f : Facts) (spot : Spot) (role : Role) (body : List Stmt) (k : Onward) (view : View) (state : State)
-    → walk f (stmt.RoleOnly spot role body) k view state ≡ walk_level f (Stmt-F.RoleOnly spot role (map (walk f) body)) k view state
-when_at f spot role body k view state = walking f (Stmt-F.RoleOnly spot role body) (stmt.RoleOnly spot role body) (stmt.rolls-RoleOnly spot role body) k view state
+pub when_at : (f : Facts) (spot : Spot) (role : Role) (body : List Stmt) (inside : Bool) (k : Onward) (view : View) (state : State)
+    → walk f (stmt.RoleOnly spot role body) inside k view state ≡ walk_level f (Stmt-F.RoleOnly spot role (map (walk f) body)) inside k view state
+when_at f spot role body inside k view state = walking f (Stmt-F.RoleOnly spot role body) (stmt.RoleOnly spot role body) (stmt.rolls-RoleOnly spot role body) inside k view state
 
-pub if_at : (f : Facts) (spot : Spot) (test : Test) (left : Expr) (right : Expr) (body : List Stmt) (other : List Stmt) (k : Onward) (view : View) (state : State)
-    → walk f (stmt.Branch spot test left right body (Some other)) k view state ≡ walk_level f (Stmt-F.Branch spot test left right (map (walk f) body) (Some (map (walk f) other))) k view state
-if_at f spot test left right body other k view state = walking f (Stmt-F.Branch spot test left right body (Some other)) (stmt.Branch spot test left right body (Some other)) (stmt.rolls-Branch spot test left right body (Some other)) k view state
+pub if_at : (f : Facts) (spot : Spot) (test : Test) (left : Expr) (right : Expr) (body : List Stmt) (other : List Stmt) (inside : Bool) (k : Onward) (view : View) (state : State)
+    → walk f (stmt.Branch spot test left right body (Some other)) inside k view state ≡ walk_level f (Stmt-F.Branch spot test left right (map (walk f) body) (Some (map (walk f) other))) inside k view state
+if_at f spot test left right body other inside k view state = walking f (Stmt-F.Branch spot test left right body (Some other)) (stmt.Branch spot test left right body (Some other)) (stmt.rolls-Branch spot test left right body (Some other)) inside k view state
 
-pub if_alone_at : (f : Facts) (spot : Spot) (test : Test) (left : Expr) (right : Expr) (body : List Stmt) (k : Onward) (view : View) (state : State)
-    → walk f (stmt.Branch spot test left right body None) k view state ≡ walk_level f (Stmt-F.Branch spot test left right (map (walk f) body) None) k view state
-if_alone_at f spot test left right body k view state = walking f (Stmt-F.Branch spot test left right body None) (stmt.Branch spot test left right body None) (stmt.rolls-Branch spot test left right body None) k view state
+pub if_alone_at : (f : Facts) (spot : Spot) (test : Test) (left : Expr) (right : Expr) (body : List Stmt) (inside : Bool) (k : Onward) (view : View) (state : State)
+    → walk f (stmt.Branch spot test left right body None) inside k view state ≡ walk_level f (Stmt-F.Branch spot test left right (map (walk f) body) None) inside k view state
+if_alone_at f spot test left right body inside k view state = walking f (Stmt-F.Branch spot test left right body None) (stmt.Branch spot test left right body None) (stmt.rolls-Branch spot test left right body None) inside k view state
 
-pub for_at : (f : Facts) (spot : Spot) (counter : List ℕ) (first : Expr) (last : ℤ) (body : List Stmt) (k : Onward) (view : View) (state : State)
-    → walk f (stmt.Loop spot counter first last body) k view state ≡ walk_level f (Stmt-F.Loop spot counter first last (map (walk f) body)) k view state
-for_at f spot counter first last body k view state = walking f (Stmt-F.Loop spot counter first last body) (stmt.Loop spot counter first last body) (stmt.rolls-Loop spot counter first last body) k view state
+pub for_at : (f : Facts) (spot : Spot) (counter : List ℕ) (first : Expr) (last : ℤ) (body : List Stmt) (inside : Bool) (k : Onward) (view : View) (state : State)
+    → walk f (stmt.Loop spot counter first last body) inside k view state ≡ walk_level f (Stmt-F.Loop spot counter first last (map (walk f) body)) inside k view state
+for_at f spot counter first last body inside k view state = walking f (Stmt-F.Loop spot counter first last body) (stmt.Loop spot counter first last body) (stmt.rolls-Loop spot counter first last body) inside k view state
 
-pub barrier_at : (f : Facts) (spot : Spot) (k : Onward) (view : View) (state : State)
-    → walk f (stmt.Barrier spot) k view state ≡ walk_level f (Stmt-F.Barrier spot) k view state
-barrier_at f spot k view state = walking f (Stmt-F.Barrier spot) (stmt.Barrier spot) (stmt.rolls-Barrier spot) k view state
+pub barrier_at : (f : Facts) (spot : Spot) (inside : Bool) (k : Onward) (view : View) (state : State)
+    → walk f (stmt.Barrier spot) inside k view state ≡ walk_level f (Stmt-F.Barrier spot) inside k view state
+barrier_at f spot inside k view state = walking f (Stmt-F.Barrier spot) (stmt.Barrier spot) (stmt.rolls-Barrier spot) inside k view state
 
-pub reduce_at : (f : Facts) (spot : Spot) (o : Op) (counter : List ℕ) (array : List ℕ) (k : Onward) (view : View) (state : State)
-    → walk f (stmt.Reduce spot o counter array) k view state ≡ walk_level f (Stmt-F.Reduce spot o counter array) k view state
-reduce_at f spot o counter array k view state = walking f (Stmt-F.Reduce spot o counter array) (stmt.Reduce spot o counter array) (stmt.rolls-Reduce spot o counter array) k view state
+pub reduce_at : (f : Facts) (spot : Spot) (o : Op) (counter : List ℕ) (array : List ℕ) (inside : Bool) (k : Onward) (view : View) (state : State)
+    → walk f (stmt.Reduce spot o counter array) inside k view state ≡ walk_level f (Stmt-F.Reduce spot o counter array) inside k view state
+reduce_at f spot o counter array inside k view state = walking f (Stmt-F.Reduce spot o counter array) (stmt.Reduce spot o counter array) (stmt.rolls-Reduce spot o counter array) inside k view state
 
-pub agree_at : (f : Facts) (spot : Spot) (counter : List ℕ) (array : List ℕ) (index : ℤ) (k : Onward) (view : View) (state : State)
-    → walk f (stmt.Agree spot counter array index) k view state ≡ walk_level f (Stmt-F.Agree spot counter array index) k view state
-agree_at f spot counter array index k view state = walking f (Stmt-F.Agree spot counter array index) (stmt.Agree spot counter array index) (stmt.rolls-Agree spot counter array index) k view state
+pub agree_at : (f : Facts) (spot : Spot) (counter : List ℕ) (array : List ℕ) (index : ℤ) (inside : Bool) (k : Onward) (view : View) (state : State)
+    → walk f (stmt.Agree spot counter array index) inside k view state ≡ walk_level f (Stmt-F.Agree spot counter array index) inside k view state
+agree_at f spot counter array index inside k view state = walking f (Stmt-F.Agree spot counter array index) (stmt.Agree spot counter array index) (stmt.rolls-Agree spot counter array index) inside k view state
 
-pub shift_at : (f : Facts) (spot : Spot) (source : List ℕ) (target : List ℕ) (by : ℤ) (k : Onward) (view : View) (state : State)
-    → walk f (stmt.Shift spot source target by) k view state ≡ walk_level f (Stmt-F.Shift spot source target by) k view state
-shift_at f spot source target by k view state = walking f (Stmt-F.Shift spot source target by) (stmt.Shift spot source target by) (stmt.rolls-Shift spot source target by) k view state
+pub shift_at : (f : Facts) (spot : Spot) (source : List ℕ) (target : List ℕ) (by : ℤ) (inside : Bool) (k : Onward) (view : View) (state : State)
+    → walk f (stmt.Shift spot source target by) inside k view state ≡ walk_level f (Stmt-F.Shift spot source target by) inside k view state
+shift_at f spot source target by inside k view state = walking f (Stmt-F.Shift spot source target by) (stmt.Shift spot source target by) (stmt.rolls-Shift spot source target by) inside k view state
 
-pub group_at : (f : Facts) (spot : Spot) (group : ℤ) (start : ℤ) (depth : ℤ) (k : Onward) (view : View) (state : State)
-    → walk f (stmt.Group spot group start depth) k view state ≡ walk_level f (Stmt-F.Group spot group start depth) k view state
-group_at f spot group start depth k view state = walking f (Stmt-F.Group spot group start depth) (stmt.Group spot group start depth) (stmt.rolls-Group spot group start depth) k view state
+pub group_at : (f : Facts) (spot : Spot) (group : ℤ) (start : ℤ) (depth : ℤ) (inside : Bool) (k : Onward) (view : View) (state : State)
+    → walk f (stmt.Group spot group start depth) inside k view state ≡ walk_level f (Stmt-F.Group spot group start depth) inside k view state
+group_at f spot group start depth inside k view state = walking f (Stmt-F.Group spot group start depth) (stmt.Group spot group start depth) (stmt.rolls-Group spot group start depth) inside k view state
 
-pub member_at : (f : Facts) (spot : Spot) (group : ℤ) (member : ℤ) (array : List ℕ) (k : Onward) (view : View) (state : State)
-    → walk f (stmt.Member spot group member array) k view state ≡ walk_level f (Stmt-F.Member spot group member array) k view state
-member_at f spot group member array k view state = walking f (Stmt-F.Member spot group member array) (stmt.Member spot group member array) (stmt.rolls-Member spot group member array) k view state
+pub member_at : (f : Facts) (spot : Spot) (group : ℤ) (member : ℤ) (array : List ℕ) (inside : Bool) (k : Onward) (view : View) (state : State)
+    → walk f (stmt.Member spot group member array) inside k view state ≡ walk_level f (Stmt-F.Member spot group member array) inside k view state
+member_at f spot group member array inside k view state = walking f (Stmt-F.Member spot group member array) (stmt.Member spot group member array) (stmt.rolls-Member spot group member array) inside k view state
 
-pub store_at : (f : Facts) (spot : Spot) (group : ℤ) (member : ℤ) (subset : Picked) (k : Onward) (view : View) (state : State)
-    → walk f (stmt.Store spot group member subset) k view state ≡ walk_level f (Stmt-F.Store spot group member subset) k view state
-store_at f spot group member subset k view state = walking f (Stmt-F.Store spot group member subset) (stmt.Store spot group member subset) (stmt.rolls-Store spot group member subset) k view state
+pub store_at : (f : Facts) (spot : Spot) (group : ℤ) (member : ℤ) (subset : Picked) (inside : Bool) (k : Onward) (view : View) (state : State)
+    → walk f (stmt.Store spot group member subset) inside k view state ≡ walk_level f (Stmt-F.Store spot group member subset) inside k view state
+store_at f spot group member subset inside k view state = walking f (Stmt-F.Store spot group member subset) (stmt.Store spot group member subset) (stmt.rolls-Store spot group member subset) inside k view state
 
-pub commit_at : (f : Facts) (spot : Spot) (group : ℤ) (k : Onward) (view : View) (state : State)
-    → walk f (stmt.Commit spot group) k view state ≡ walk_level f (Stmt-F.Commit spot group) k view state
-commit_at f spot group k view state = walking f (Stmt-F.Commit spot group) (stmt.Commit spot group) (stmt.rolls-Commit spot group) k view state
+pub commit_at : (f : Facts) (spot : Spot) (group : ℤ) (inside : Bool) (k : Onward) (view : View) (state : State)
+    → walk f (stmt.Commit spot group) inside k view state ≡ walk_level f (Stmt-F.Commit spot group) inside k view state
+commit_at f spot group inside k view state = walking f (Stmt-F.Commit spot group) (stmt.Commit spot group) (stmt.rolls-Commit spot group) inside k view state
 
-pub commit_barrier_at : (f : Facts) (spot : Spot) (group : ℤ) (k : Onward) (view : View) (state : State)
-    → walk f (stmt.CommitBarrier spot group) k view state ≡ walk_level f (Stmt-F.CommitBarrier spot group) k view state
-commit_barrier_at f spot group k view state = walking f (Stmt-F.CommitBarrier spot group) (stmt.CommitBarrier spot group) (stmt.rolls-CommitBarrier spot group) k view state
+pub commit_barrier_at : (f : Facts) (spot : Spot) (group : ℤ) (inside : Bool) (k : Onward) (view : View) (state : State)
+    → walk f (stmt.CommitBarrier spot group) inside k view state ≡ walk_level f (Stmt-F.CommitBarrier spot group) inside k view state
+commit_barrier_at f spot group inside k view state = walking f (Stmt-F.CommitBarrier spot group) (stmt.CommitBarrier spot group) (stmt.rolls-CommitBarrier spot group) inside k view state
 
-pub restore_at : (f : Facts) (spot : Spot) (group : ℤ) (member : ℤ) (stamp : Expr) (k : Onward) (view : View) (state : State)
-    → walk f (stmt.Restore spot group member stamp) k view state ≡ walk_level f (Stmt-F.Restore spot group member stamp) k view state
-restore_at f spot group member stamp k view state = walking f (Stmt-F.Restore spot group member stamp) (stmt.Restore spot group member stamp) (stmt.rolls-Restore spot group member stamp) k view state
+pub restore_at : (f : Facts) (spot : Spot) (group : ℤ) (member : ℤ) (stamp : Expr) (inside : Bool) (k : Onward) (view : View) (state : State)
+    → walk f (stmt.Restore spot group member stamp) inside k view state ≡ walk_level f (Stmt-F.Restore spot group member stamp) inside k view state
+restore_at f spot group member stamp inside k view state = walking f (Stmt-F.Restore spot group member stamp) (stmt.Restore spot group member stamp) (stmt.rolls-Restore spot group member stamp) inside k view state
 
-pub drop_at : (f : Facts) (spot : Spot) (group : ℤ) (stamp : Expr) (k : Onward) (view : View) (state : State)
-    → walk f (stmt.Drop spot group stamp) k view state ≡ walk_level f (Stmt-F.Drop spot group stamp) k view state
-drop_at f spot group stamp k view state = walking f (Stmt-F.Drop spot group stamp) (stmt.Drop spot group stamp) (stmt.rolls-Drop spot group stamp) k view state
+pub drop_at : (f : Facts) (spot : Spot) (group : ℤ) (stamp : Expr) (inside : Bool) (k : Onward) (view : View) (state : State)
+    → walk f (stmt.Drop spot group stamp) inside k view state ≡ walk_level f (Stmt-F.Drop spot group stamp) inside k view state
+drop_at f spot group stamp inside k view state = walking f (Stmt-F.Drop spot group stamp) (stmt.Drop spot group stamp) (stmt.rolls-Drop spot group stamp) inside k view state
 
 -- ---- expressions
 

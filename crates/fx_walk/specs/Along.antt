@@ -22,29 +22,29 @@ abbrev pub outputs : Walk → List Reply → List Output
 outputs (Ends state) replies = []
 outputs (Passes rest) replies = outputs rest replies
 outputs (Prints printed rest) replies = Print printed ∷ outputs rest replies
-outputs (Asks spot wanted state rest) [] = Ask wanted ∷ []
-outputs (Asks spot wanted state rest) (reply ∷ replies) = Ask wanted ∷ outputs (rest reply) replies
+outputs (Asks place wanted state rest) [] = Ask wanted ∷ []
+outputs (Asks place wanted state rest) (reply ∷ replies) = Ask wanted ∷ outputs (rest reply) replies
 
 -- where the walk has come with these replies; those that come after its end change nothing
 abbrev pub stop_of : Walk → List Reply → Stop
 stop_of (Ends state) replies = AtEnd state
 stop_of (Passes rest) replies = stop_of rest replies
 stop_of (Prints printed rest) replies = stop_of rest replies
-stop_of (Asks spot wanted state rest) [] = AtAsk wanted state
-stop_of (Asks spot wanted state rest) (reply ∷ replies) = stop_of (rest reply) replies
+stop_of (Asks place wanted state rest) [] = AtAsk wanted state
+stop_of (Asks place wanted state rest) (reply ∷ replies) = stop_of (rest reply) replies
 
 -- what is left of it there
 abbrev pub rest_after : Walk → List Reply → Walk
 rest_after (Ends state) replies = Ends state
 rest_after (Passes rest) replies = rest_after rest replies
 rest_after (Prints printed rest) replies = rest_after rest replies
-rest_after (Asks spot wanted state rest) [] = Asks spot wanted state rest
-rest_after (Asks spot wanted state rest) (reply ∷ replies) = rest_after (rest reply) replies
+rest_after (Asks place wanted state rest) [] = Asks place wanted state rest
+rest_after (Asks place wanted state rest) (reply ∷ replies) = rest_after (rest reply) replies
 
 -- what a walk that stands there shows, when more replies come: the statement that it waits at was shown before
 abbrev pub outputs_from : Walk → List Reply → List Output
-outputs_from (Asks spot wanted state rest) (reply ∷ replies) = outputs (rest reply) replies
-outputs_from (Asks spot wanted state rest) [] = []
+outputs_from (Asks place wanted state rest) (reply ∷ replies) = outputs (rest reply) replies
+outputs_from (Asks place wanted state rest) [] = []
 outputs_from (Ends state) replies = []
 outputs_from (Passes rest) replies = outputs rest replies
 outputs_from (Prints printed rest) replies = Print printed ∷ outputs rest replies
@@ -54,4 +54,4 @@ abbrev pub at_of : Walk → At
 at_of (Ends state) = at.Finish
 at_of (Passes rest) = at.Plain
 at_of (Prints printed rest) = at.Plain
-at_of (Asks spot wanted state rest) = at.Outward
+at_of (Asks place wanted state rest) = at.Outward

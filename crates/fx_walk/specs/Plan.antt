@@ -1,5 +1,5 @@
 -- The part of a walk that is the same on all ranks, whatever their roles, places and arrays are.
-use Rattle.std.specs.Prelude.{◌≡◌, ◌⊎◌, ℕ, zero, suc, ◌+◌, ℤ, pos, Bool, true, false, if◌then◌else◌, List, [], ◌∷◌, map, slice_set, Option, Some, None}
+use Rattle.std.specs.Prelude.{◌≡◌, ℕ, zero, suc, ◌+◌, ℤ, pos, Bool, true, false, if◌then◌else◌, List, [], ◌∷◌, map, slice_set, Option, Some, None}
 use Rattle.fx_base.specs.declared.names.GroupId.{GroupId}
 use Rattle.fx_base.specs.declared.names.MemberId.{MemberId}
 use Rattle.fx_base.specs.declared.names.Op.{Op}
@@ -64,12 +64,12 @@ common_of (wanted.Close group) = Close group
 common_of (wanted.Restore group member stamp) = Restore group member stamp
 common_of (wanted.Delete group stamp) = Delete group stamp
 
--- a statement that may stand inside `when`, so that only some ranks come to it
-abbrev pub may_be_aside : Common → Bool
-may_be_aside (Attach group member) = true
-may_be_aside (Store group member) = true
-may_be_aside (Restore group member stamp) = true
-may_be_aside other = false
+-- a statement that may stand inside `when`
+abbrev pub may_stand_in_when : Common → Bool
+may_stand_in_when (Attach group member) = true
+may_stand_in_when (Store group member) = true
+may_stand_in_when (Restore group member stamp) = true
+may_stand_in_when other = false
 
 -- the number among what is given
 abbrev pub number_of : walked.Given → Option ℤ
@@ -160,12 +160,16 @@ MeetsAs (Stops counters) spot common state Keeps = ⊥
 MeetsAs (Meets at due counters rest) spot common state Keeps =
     (spot ≡ at) × (common ≡ due) × (state.counters ≡ counters) × ((reply : walked.Reply) → Keeps (rest (number_of reply.given) reply.latest) reply)
 
--- Whatever it is given, a walk asks what its plan has, at the same place with the same counters, and keeps to what is left of the
--- plan. Only what may be aside may be asked beside the plan; it leaves the newest stamps as they are.
+-- A statement inside `when` is asked beside the plan, whatever it is given, and leaves the newest stamps as they are. Any other is the
+-- next of the plan, and what is left of the plan is the same for all that are given the same number and the same stamps.
+abbrev pub AsksBy : Bool → Plan → Spot → Common → State → List ℤ → (Plan → walked.Reply → Type 0) → Type 0
+AsksBy true plan spot common state latest Keeps = (may_stand_in_when common ≡ true) × ((given : walked.Given) → Keeps plan (record { given = given; latest = latest }))
+AsksBy false plan spot common state latest Keeps = MeetsAs plan spot common state Keeps
+
+-- A walk asks what the plan has, at the same places with the same counters, and ends where the plan ends.
 abbrev pub Keeps : walked.Walk → Plan → List ℤ → Type 0
 Keeps (walked.Ends state) plan latest = StopsAs plan state
 Keeps (walked.Passes rest) plan latest = Keeps rest plan latest
 Keeps (walked.Prints printed rest) plan latest = Keeps rest plan latest
-Keeps (walked.Asks spot wanted state rest) plan latest =
-    MeetsAs plan spot (common_of wanted) state (λ left reply. Keeps (rest reply) left reply.latest)
-    ⊎ ((may_be_aside (common_of wanted) ≡ true) × ((given : walked.Given) → Keeps (rest (record { given = given; latest = latest })) plan latest))
+Keeps (walked.Asks place wanted state rest) plan latest =
+    AsksBy place.in_when plan place.spot (common_of wanted) state latest (λ left reply. Keeps (rest reply) left reply.latest)

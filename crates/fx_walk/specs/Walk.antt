@@ -39,21 +39,26 @@ pub record Reply : Type 0 where
 
 -- ---- walks
 
+-- where an outward statement stands in the text, and whether a block of `when` is around it
+pub record TextPlace : Type 0 where
+  pub spot : Spot
+  pub in_when : Bool
+
 -- What is left of a walk. A plain action that prints nothing passes; a walk ends, or waits at a place of the text for the reply to
 -- what it asks there, in a state.
 pub data Walk : Type 0 where
   Ends : (state : State) → Walk
   Passes : (rest : Walk) → Walk
   Prints : (printed : Printed) (rest : Walk) → Walk
-  Asks : (spot : Spot) (wanted : Wanted) (state : State) (rest : Reply → Walk) → Walk
+  Asks : (place : TextPlace) (wanted : Wanted) (state : State) (rest : Reply → Walk) → Walk
 
 -- the walk from here on, by what is seen and the state
 abbrev pub Onward : Type 0
 Onward = View → State → Walk
 
--- a statement goes before what comes behind it
+-- a statement, by whether it stands inside `when`, goes before what comes behind it
 abbrev pub Turn : Type 0
-Turn = Onward → Onward
+Turn = Bool → Onward → Onward
 
 -- ---- parts of statements
 
@@ -65,20 +70,20 @@ is_same_role a b = false
 
 -- one statement after another
 abbrev pub in_turn : List Turn → Turn
-in_turn [] onward = onward
-in_turn (turn ∷ turns) onward = turn (in_turn turns onward)
+in_turn [] inside onward = onward
+in_turn (turn ∷ turns) inside onward = turn inside (in_turn turns inside onward)
 
 -- the other list of a branch, if there is one
 abbrev pub in_turn_if : Option (List Turn) → Turn
-in_turn_if None onward = onward
-in_turn_if (Some turns) onward = in_turn turns onward
+in_turn_if None inside onward = onward
+in_turn_if (Some turns) inside onward = in_turn turns inside onward
 
 -- A loop before its test, with so many turns left, of which the next has this value. The test is an action, also the last one. Each
 -- turn begins by setting the counter.
 abbrev pub looped : Facts → List ℕ → Turn → ℕ → ℕ → Turn
-looped f counter body zero value onward view state = Passes (onward view state)
-looped f counter body (suc left) value onward view state =
-    Passes (body (looped f counter body left (value + 1) onward) view (with_counter f state counter (pos value)))
+looped f counter body zero value inside onward view state = Passes (onward view state)
+looped f counter body (suc left) value inside onward view state =
+    Passes (body inside (looped f counter body left (value + 1) inside onward) view (with_counter f state counter (pos value)))
 
 -- how many values there are from a first one, 0 in place of a negative one, up to a last
 abbrev pub turns_of : ℤ → ℤ → ℕ
@@ -143,40 +148,40 @@ abbrev pub view_after : View → Reply → View
 view_after view reply = record view { latest = reply.latest }
 
 abbrev pub asks : Spot → Wanted → (Given → State) → Turn
-asks spot wanted made onward view state = Asks spot wanted state (λ reply. onward (view_after view reply) (made reply.given))
+asks spot wanted made inside onward view state = Asks (record { spot = spot; in_when = inside }) wanted state (λ reply. onward (view_after view reply) (made reply.given))
 
 -- ---- statements
 
 -- `let` computes all elements from the old arrays, and then writes them
 abbrev pub walk_level : Facts → Stmt-F Turn → Turn
-walk_level f (Stmt-F.Let spot array value) onward view state =
+walk_level f (Stmt-F.Let spot array value) inside onward view state =
     Passes (onward view (with_elements f state array (values_from f value (sight view state) 0 (elements_of f state array))))
-walk_level f (Stmt-F.Set spot counter value) onward view state = Passes (onward view (with_counter f state counter (value_of f value (sight view state))))
-walk_level f (Stmt-F.Print spot name) onward view state = Prints (printed_of f state name) (onward view state)
-walk_level f (Stmt-F.Register spot name) onward view state = Passes (onward view (with_callback state name))
-walk_level f (Stmt-F.RoleOnly spot role body) onward view state = Passes (if is_same_role role view.role then in_turn body onward view state else onward view state)
-walk_level f (Stmt-F.Branch spot test left right body other) onward view state =
-    Passes (if holds test (value_of f left (sight view state)) (value_of f right (sight view state)) then in_turn body onward view state else in_turn_if other onward view state)
-walk_level f (Stmt-F.Loop spot counter first last body) onward view state =
-    looped f counter (in_turn body) (turns_of (value_of f first (sight view state)) last) (count_of (value_of f first (sight view state))) onward view state
-walk_level f (Stmt-F.Barrier spot) onward view state = asks spot wanted.Barrier (keeps state) onward view state
-walk_level f (Stmt-F.Reduce spot o counter array) onward view state =
-    asks spot (wanted.Reduce o (reduced o (elements_of f state array))) (sets_counter f counter state) onward view state
-walk_level f (Stmt-F.Agree spot counter array index) onward view state =
-    asks spot (wanted.Agree (get_or (elements_of f state array) (count_of index) (pos 0))) (sets_counter f counter state) onward view state
-walk_level f (Stmt-F.Shift spot source target by) onward view state =
-    asks spot (wanted.Shift (count_of by) (elements_of f state source)) (sets_elements f target state) onward view state
-walk_level f (Stmt-F.Group spot group start depth) onward view state =
-    asks spot (wanted.Group (group_id group) (stamp_at start) (count_of depth)) (keeps state) onward view state
-walk_level f (Stmt-F.Member spot group member array) onward view state = asks spot (wanted.Attach (group_id group) (member_id member)) (keeps state) onward view state
-walk_level f (Stmt-F.Store spot group member subset) onward view state =
-    asks spot (wanted.Store (group_id group) (member_id member) (stored subset (elements_of f state (member_array f group member)))) (keeps state) onward view state
-walk_level f (Stmt-F.Commit spot group) onward view state = asks spot (wanted.Commit (group_id group)) (keeps state) onward view state
-walk_level f (Stmt-F.CommitBarrier spot group) onward view state = asks spot (wanted.Close (group_id group)) (keeps state) onward view state
-walk_level f (Stmt-F.Restore spot group member stamp) onward view state =
-    asks spot (wanted.Restore (group_id group) (member_id member) (stamp_at (value_of f stamp (sight view state)))) (sets_entries f (member_array f group member) state) onward view state
-walk_level f (Stmt-F.Drop spot group stamp) onward view state =
-    asks spot (wanted.Delete (group_id group) (stamp_at (value_of f stamp (sight view state)))) (keeps state) onward view state
+walk_level f (Stmt-F.Set spot counter value) inside onward view state = Passes (onward view (with_counter f state counter (value_of f value (sight view state))))
+walk_level f (Stmt-F.Print spot name) inside onward view state = Prints (printed_of f state name) (onward view state)
+walk_level f (Stmt-F.Register spot name) inside onward view state = Passes (onward view (with_callback state name))
+walk_level f (Stmt-F.RoleOnly spot role body) inside onward view state = Passes (if is_same_role role view.role then in_turn body true onward view state else onward view state)
+walk_level f (Stmt-F.Branch spot test left right body other) inside onward view state =
+    Passes (if holds test (value_of f left (sight view state)) (value_of f right (sight view state)) then in_turn body inside onward view state else in_turn_if other inside onward view state)
+walk_level f (Stmt-F.Loop spot counter first last body) inside onward view state =
+    looped f counter (in_turn body) (turns_of (value_of f first (sight view state)) last) (count_of (value_of f first (sight view state))) inside onward view state
+walk_level f (Stmt-F.Barrier spot) inside onward view state = asks spot wanted.Barrier (keeps state) inside onward view state
+walk_level f (Stmt-F.Reduce spot o counter array) inside onward view state =
+    asks spot (wanted.Reduce o (reduced o (elements_of f state array))) (sets_counter f counter state) inside onward view state
+walk_level f (Stmt-F.Agree spot counter array index) inside onward view state =
+    asks spot (wanted.Agree (get_or (elements_of f state array) (count_of index) (pos 0))) (sets_counter f counter state) inside onward view state
+walk_level f (Stmt-F.Shift spot source target by) inside onward view state =
+    asks spot (wanted.Shift (count_of by) (elements_of f state source)) (sets_elements f target state) inside onward view state
+walk_level f (Stmt-F.Group spot group start depth) inside onward view state =
+    asks spot (wanted.Group (group_id group) (stamp_at start) (count_of depth)) (keeps state) inside onward view state
+walk_level f (Stmt-F.Member spot group member array) inside onward view state = asks spot (wanted.Attach (group_id group) (member_id member)) (keeps state) inside onward view state
+walk_level f (Stmt-F.Store spot group member subset) inside onward view state =
+    asks spot (wanted.Store (group_id group) (member_id member) (stored subset (elements_of f state (member_array f group member)))) (keeps state) inside onward view state
+walk_level f (Stmt-F.Commit spot group) inside onward view state = asks spot (wanted.Commit (group_id group)) (keeps state) inside onward view state
+walk_level f (Stmt-F.CommitBarrier spot group) inside onward view state = asks spot (wanted.Close (group_id group)) (keeps state) inside onward view state
+walk_level f (Stmt-F.Restore spot group member stamp) inside onward view state =
+    asks spot (wanted.Restore (group_id group) (member_id member) (stamp_at (value_of f stamp (sight view state)))) (sets_entries f (member_array f group member) state) inside onward view state
+walk_level f (Stmt-F.Drop spot group stamp) inside onward view state =
+    asks spot (wanted.Delete (group_id group) (stamp_at (value_of f stamp (sight view state)))) (keeps state) inside onward view state
 
 abbrev pub walk : Facts → Stmt → Turn
 walk f = fold-Stmt Turn (walk_level f)
@@ -190,7 +195,7 @@ ended view state = Ends state
 
 -- the walk of statements and nothing behind them
 abbrev pub walk_of : Facts → List Stmt → View → State → Walk
-walk_of f statements = walks f statements ended
+walk_of f statements = walks f statements false ended
 
 -- ---- rows
 
