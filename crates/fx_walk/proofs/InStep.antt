@@ -1,5 +1,5 @@
 -- Each rank's walk of a body that keeps the rules keeps to one plan.
-use Rattle.std.proofs.Common.{◌≡◌, ℕ, zero, suc, ◌+◌, Bool, true, false, not, ◌&&◌, List, [], ◌∷◌, ◌++◌, map, Option, Some, None, refl, ap, sym, subst, ◌∙◌}
+use Rattle.std.proofs.Common.{◌≡◌, ℕ, zero, suc, ◌+◌, Bool, true, false, not, ◌&&◌, List, [], ◌∷◌, ◌++◌, map, Some, None, refl, ap, sym, subst, ◌∙◌}
 use Rattle.std.specs.Prelude.{ℤ, pos, if◌then◌else◌}
 use Rattle.std.specs.List.{AllByRecursion}
 use Rattle.std.proofs.lemmas.Bool.{and_parts}
@@ -17,7 +17,7 @@ use Rattle.fx_walk.specs.declared.action.View.{View}
 use Rattle.fx_walk.specs.State.{State, with_counter}
 use Rattle.fx_walk.specs.Values.{sight, value_of, holds}
 use Rattle.fx_walk.specs.Walk.{Given, Nothing, Number, Elements, Entries, Reply, Walk, Onward, Turn, in_turn, looped, turns_of, is_same_role, member_array, sets_counter, sets_elements, sets_entries, view_after, walk_level, walk, walks, walk_of, ended, group_id, member_id, stamp_at}
-use Rattle.fx_walk.specs.Plan.{Shared, shared_of, shared_sight, Common, Restore, Delete, number_of, Plan, Meets, PlanOnward, PlanTurn, planned, plan_looped, set_to, set_if, plan_level, plan, plans, plan_of, Keeps}
+use Rattle.fx_walk.specs.Plan.{Shared, shared_of, shared_sight, Restore, Delete, number_of, Plan, PlanOnward, PlanTurn, planned, plan_looped, set_to, set_if, plan_level, plan, plans, plan_of, Keeps}
 use Rattle.fx_walk.proofs.Shared.{uniform_value}
 
 -- ---- lines
@@ -61,7 +61,7 @@ IsQuiet f s = (p : Surroundings) → p.in_when ≡ true → KeepRules (stmt_line
 
 quiet_rolled : (f : Facts) (x : Stmt-F Stmt)
     → ((p : Surroundings) → p.in_when ≡ true → KeepRules (stmt_lines_level f (map-Stmt Stmt (Surroundings → List Line) (stmt_lines f) x) p) → (k : Onward) (u : Plan) (view : View) (cs : List ℤ) → Rests k u view cs
-        → Rests (walk_level f (map-Stmt Stmt Turn (walk f) x) true k) u view cs)
+    → Rests (walk_level f (map-Stmt Stmt Turn (walk f) x) true k) u view cs)
     → IsQuiet f (roll-Stmt x)
 quiet_rolled f x level p inside keep k u view cs rests =
     subst (λ (t : Turn). Rests (t true k) u view cs) (sym (fold-roll-Stmt Turn (walk_level f) x))
@@ -85,7 +85,7 @@ quiet_list f [] p inside keep k u view cs rests = rests
 quiet_list f (t ∷ ts) p inside keep k u view cs rests =
     let later = lines_at (map (stmt_lines f) (map (λ (t : (s : Stmt) × IsQuiet f s). t.0) ts)) p in
     t.1 p inside (all_front KeepsRules (stmt_lines f t.0 p) later keep) (in_turn (map (walk f) (map (λ (t : (s : Stmt) × IsQuiet f s). t.0) ts)) true k) u view cs
-        (quiet_list f ts p inside (all_behind KeepsRules (stmt_lines f t.0 p) later keep) k u view cs rests)
+    (quiet_list f ts p inside (all_behind KeepsRules (stmt_lines f t.0 p) later keep) k u view cs rests)
 
 quiet_level : (f : Facts) (y : Stmt-F ((s : Stmt) × IsQuiet f s)) → IsQuiet f (roll-Stmt (map-Stmt ((s : Stmt) × IsQuiet f s) Stmt (λ t. t.0) y))
 quiet_level f (Stmt-F.Let spot array value) = quiet_rolled f (Stmt-F.Let spot array value) (λ p inside keep k u view cs rests v e. rests _ e)
@@ -96,11 +96,11 @@ quiet_level f (Stmt-F.RoleOnly spot role ts) = quiet_rolled f (Stmt-F.RoleOnly s
     (λ p inside keep k u view cs rests v e. either (is_same_role role view.role) _ _ u view.latest (quiet_list f ts (inside_when p) refl keep.1 k u view cs rests v e) (rests v e))
 quiet_level f (Stmt-F.Branch spot test left right ts None) = quiet_rolled f (Stmt-F.Branch spot test left right (map (λ t. t.0) ts) None)
     (λ p inside keep k u view cs rests v e. either (holds test (value_of f left (sight view v)) (value_of f right (sight view v))) (in_turn (map (walk f) (map (λ t. t.0) ts)) true k view v) (k view v) u view.latest
-        (quiet_list f ts (inside_if p) inside (all_front KeepsRules _ [] keep.1) k u view cs rests v e) (rests v e))
+    (quiet_list f ts (inside_if p) inside (all_front KeepsRules _ [] keep.1) k u view cs rests v e) (rests v e))
 quiet_level f (Stmt-F.Branch spot test left right ts (Some us)) = quiet_rolled f (Stmt-F.Branch spot test left right (map (λ t. t.0) ts) (Some (map (λ t. t.0) us)))
     (λ p inside keep k u view cs rests v e. either (holds test (value_of f left (sight view v)) (value_of f right (sight view v))) (in_turn (map (walk f) (map (λ t. t.0) ts)) true k view v) (in_turn (map (walk f) (map (λ t. t.0) us)) true k view v) u view.latest
-        (quiet_list f ts (inside_if p) inside (all_front KeepsRules _ _ keep.1) k u view cs rests v e)
-        (quiet_list f us (inside_if p) inside (all_behind KeepsRules _ _ keep.1) k u view cs rests v e))
+    (quiet_list f ts (inside_if p) inside (all_front KeepsRules _ _ keep.1) k u view cs rests v e)
+    (quiet_list f us (inside_if p) inside (all_behind KeepsRules _ _ keep.1) k u view cs rests v e))
 quiet_level f (Stmt-F.Loop spot counter first last ts) = quiet_rolled f (Stmt-F.Loop spot counter first last (map (λ t. t.0) ts)) (λ p inside keep k u view cs rests v e. absurd (not_true p.in_when inside (and_parts (not p.in_when) (expr_uniform f first) keep.0.uniform).0))
 quiet_level f (Stmt-F.Barrier spot) = quiet_rolled f (Stmt-F.Barrier spot) (λ p inside keep k u view cs rests v e. absurd (not_for_all p.in_when _ inside keep.0.placed))
 quiet_level f (Stmt-F.Reduce spot o counter array) = quiet_rolled f (Stmt-F.Reduce spot o counter array) (λ p inside keep k u view cs rests v e. absurd (not_for_all p.in_when _ inside keep.0.placed))
@@ -135,7 +135,7 @@ IsPlanned f s = (p : Surroundings) → p.in_when ≡ false → KeepRules (stmt_l
 
 planned_rolled : (f : Facts) (x : Stmt-F Stmt)
     → ((p : Surroundings) → p.in_when ≡ false → KeepRules (stmt_lines_level f (map-Stmt Stmt (Surroundings → List Line) (stmt_lines f) x) p) → (k : Onward) (pk : PlanOnward) → Alike k pk
-        → Alike (walk_level f (map-Stmt Stmt Turn (walk f) x) false k) (plan_level f (map-Stmt Stmt PlanTurn (plan f) x) pk))
+    → Alike (walk_level f (map-Stmt Stmt Turn (walk f) x) false k) (plan_level f (map-Stmt Stmt PlanTurn (plan f) x) pk))
     → IsPlanned f (roll-Stmt x)
 planned_rolled f x level p inside keep k pk alike =
     subst (λ (t : Turn). Alike (t false k) (plan f (roll-Stmt x) pk)) (sym (fold-roll-Stmt Turn (walk_level f) x))
@@ -149,7 +149,7 @@ planned_list f (t ∷ ts) p inside keep k pk alike =
     let ss = map (λ (t : (s : Stmt) × IsPlanned f s). t.0) ts in
     let later = lines_at (map (stmt_lines f) ss) p in
     t.1 p inside (all_front KeepsRules (stmt_lines f t.0 p) later keep) (in_turn (map (walk f) ss) false k) (planned (map (plan f) ss) pk)
-        (planned_list f ts p inside (all_behind KeepsRules (stmt_lines f t.0 p) later keep) k pk alike)
+    (planned_list f ts p inside (all_behind KeepsRules (stmt_lines f t.0 p) later keep) k pk alike)
 
 -- the two sides of a test that is the same
 tested : (test : Test) (a b c d : ℤ) → a ≡ c → b ≡ d → (x y : Walk) (m n : Plan) (latest : List ℤ) → Keeps x m latest → Keeps y n latest → Keeps (if holds test a b then x else y) (if holds test c d then m else n) latest
@@ -185,33 +185,33 @@ planned_level f (Stmt-F.Print spot name) = planned_rolled f (Stmt-F.Print spot n
 planned_level f (Stmt-F.Register spot name) = planned_rolled f (Stmt-F.Register spot name) (λ p inside keep k pk alike view state. alike view _)
 planned_level f (Stmt-F.RoleOnly spot role ts) = planned_rolled f (Stmt-F.RoleOnly spot role (map (λ t. t.0) ts))
     (λ p inside keep k pk alike view state. either (is_same_role role view.role) _ _ (pk (shared_of view state)) view.latest
-        (quiets f (map (λ t. t.0) ts) (inside_when p) refl keep.1 k (pk (shared_of view state)) view state.counters
-            (λ x e. subst (λ (cs : List ℤ). Keeps (k view x) (pk (record (shared_of view state) { counters = cs })) view.latest) e (alike view x)) state refl) (alike view state))
+    (quiets f (map (λ t. t.0) ts) (inside_when p) refl keep.1 k (pk (shared_of view state)) view state.counters
+    (λ x e. subst (λ (cs : List ℤ). Keeps (k view x) (pk (record (shared_of view state) { counters = cs })) view.latest) e (alike view x)) state refl) (alike view state))
 planned_level f (Stmt-F.Branch spot test left right ts None) = planned_rolled f (Stmt-F.Branch spot test left right (map (λ t. t.0) ts) None)
     (λ p inside keep k pk alike view state.
-        let both = and_parts (expr_uniform f left) (expr_uniform f right) keep.0.uniform in
-        let shared = shared_of view state in
-        tested test (value_of f left (sight view state)) (value_of f right (sight view state)) (value_of f left (shared_sight shared)) (value_of f right (shared_sight shared))
-            (uniform_value f left both.0 view state) (uniform_value f right both.1 view state)
-            (in_turn (map (walk f) (map (λ t. t.0) ts)) false k view state) (k view state) (planned (map (plan f) (map (λ t. t.0) ts)) pk shared) (pk shared) view.latest
-        (planned_list f ts (inside_if p) inside (all_front KeepsRules _ [] keep.1) k pk alike view state) (alike view state))
+    let both = and_parts (expr_uniform f left) (expr_uniform f right) keep.0.uniform in
+    let shared = shared_of view state in
+    tested test (value_of f left (sight view state)) (value_of f right (sight view state)) (value_of f left (shared_sight shared)) (value_of f right (shared_sight shared))
+    (uniform_value f left both.0 view state) (uniform_value f right both.1 view state)
+    (in_turn (map (walk f) (map (λ t. t.0) ts)) false k view state) (k view state) (planned (map (plan f) (map (λ t. t.0) ts)) pk shared) (pk shared) view.latest
+    (planned_list f ts (inside_if p) inside (all_front KeepsRules _ [] keep.1) k pk alike view state) (alike view state))
 planned_level f (Stmt-F.Branch spot test left right ts (Some us)) = planned_rolled f (Stmt-F.Branch spot test left right (map (λ t. t.0) ts) (Some (map (λ t. t.0) us)))
     (λ p inside keep k pk alike view state.
-        let both = and_parts (expr_uniform f left) (expr_uniform f right) keep.0.uniform in
-        let shared = shared_of view state in
-        tested test (value_of f left (sight view state)) (value_of f right (sight view state)) (value_of f left (shared_sight shared)) (value_of f right (shared_sight shared))
-            (uniform_value f left both.0 view state) (uniform_value f right both.1 view state)
-            (in_turn (map (walk f) (map (λ t. t.0) ts)) false k view state) (in_turn (map (walk f) (map (λ t. t.0) us)) false k view state)
-            (planned (map (plan f) (map (λ t. t.0) ts)) pk shared) (planned (map (plan f) (map (λ t. t.0) us)) pk shared) view.latest
-        (planned_list f ts (inside_if p) inside (all_front KeepsRules _ _ keep.1) k pk alike view state) (planned_list f us (inside_if p) inside (all_behind KeepsRules _ _ keep.1) k pk alike view state))
+    let both = and_parts (expr_uniform f left) (expr_uniform f right) keep.0.uniform in
+    let shared = shared_of view state in
+    tested test (value_of f left (sight view state)) (value_of f right (sight view state)) (value_of f left (shared_sight shared)) (value_of f right (shared_sight shared))
+    (uniform_value f left both.0 view state) (uniform_value f right both.1 view state)
+    (in_turn (map (walk f) (map (λ t. t.0) ts)) false k view state) (in_turn (map (walk f) (map (λ t. t.0) us)) false k view state)
+    (planned (map (plan f) (map (λ t. t.0) ts)) pk shared) (planned (map (plan f) (map (λ t. t.0) us)) pk shared) view.latest
+    (planned_list f ts (inside_if p) inside (all_front KeepsRules _ _ keep.1) k pk alike view state) (planned_list f us (inside_if p) inside (all_behind KeepsRules _ _ keep.1) k pk alike view state))
 planned_level f (Stmt-F.Loop spot counter first last ts) = planned_rolled f (Stmt-F.Loop spot counter first last (map (λ t. t.0) ts))
     (λ p inside keep k pk alike view state.
-        let body = in_turn (map (walk f) (map (λ (t : (s : Stmt) × IsPlanned f s). t.0) ts)) in
-        let plan_body = planned (map (plan f) (map (λ (t : (s : Stmt) × IsPlanned f s). t.0) ts)) in
-        let from = value_of f first (sight view state) in
-        subst (λ (n : ℤ). Keeps (looped f counter body (turns_of from last) (count_of from) false k view state) (plan_looped f counter plan_body (turns_of n last) (count_of n) pk (shared_of view state)) view.latest)
-        (uniform_value f first (and_parts (not p.in_when) (expr_uniform f first) keep.0.uniform).1 view state)
-        (turns_planned f counter body plan_body (λ k pk alike. planned_list f ts (inside_for p) inside keep.1 k pk alike) (turns_of from last) (count_of from) k pk alike view state))
+    let body = in_turn (map (walk f) (map (λ (t : (s : Stmt) × IsPlanned f s). t.0) ts)) in
+    let plan_body = planned (map (plan f) (map (λ (t : (s : Stmt) × IsPlanned f s). t.0) ts)) in
+    let from = value_of f first (sight view state) in
+    subst (λ (n : ℤ). Keeps (looped f counter body (turns_of from last) (count_of from) false k view state) (plan_looped f counter plan_body (turns_of n last) (count_of n) pk (shared_of view state)) view.latest)
+    (uniform_value f first (and_parts (not p.in_when) (expr_uniform f first) keep.0.uniform).1 view state)
+    (turns_planned f counter body plan_body (λ k pk alike. planned_list f ts (inside_for p) inside keep.1 k pk alike) (turns_of from last) (count_of from) k pk alike view state))
 planned_level f (Stmt-F.Barrier spot) = planned_rolled f (Stmt-F.Barrier spot) (λ p inside keep k pk alike view state. (refl, refl, refl, λ reply. alike (view_after view reply) state))
 planned_level f (Stmt-F.Reduce spot o counter array) = planned_rolled f (Stmt-F.Reduce spot o counter array) (λ p inside keep k pk alike view state. (refl, refl, refl, λ reply. after_number f counter k pk alike view state reply))
 planned_level f (Stmt-F.Agree spot counter array index) = planned_rolled f (Stmt-F.Agree spot counter array index) (λ p inside keep k pk alike view state. (refl, refl, refl, λ reply. after_number f counter k pk alike view state reply))
@@ -223,8 +223,12 @@ planned_level f (Stmt-F.Store spot group member subset) = planned_rolled f (Stmt
 planned_level f (Stmt-F.Commit spot group) = planned_rolled f (Stmt-F.Commit spot group) (λ p inside keep k pk alike view state. (refl, refl, refl, λ reply. alike (view_after view reply) state))
 planned_level f (Stmt-F.CommitBarrier spot group) = planned_rolled f (Stmt-F.CommitBarrier spot group) (λ p inside keep k pk alike view state. (refl, refl, refl, λ reply. alike (view_after view reply) state))
 planned_level f (Stmt-F.Restore spot group member stamp) = planned_rolled f (Stmt-F.Restore spot group member stamp)
-    (λ p inside keep k pk alike view state. (refl, ap (λ (n : ℤ). Restore (group_id group) (member_id member) (stamp_at n)) (uniform_value f stamp keep.0.uniform view state), refl,
-        λ reply. after_same k pk alike view (shared_of view state) (sets_entries f (member_array f group member) state reply.given) (entries_aside f (member_array f group member) state reply.given) refl reply.latest))
+    (λ p inside keep k pk alike view state. (
+      refl,
+      ap (λ (n : ℤ). Restore (group_id group) (member_id member) (stamp_at n)) (uniform_value f stamp keep.0.uniform view state),
+      refl,
+      λ reply. after_same k pk alike view (shared_of view state) (sets_entries f (member_array f group member) state reply.given) (entries_aside f (member_array f group member) state reply.given) refl reply.latest,
+    ))
 planned_level f (Stmt-F.Drop spot group stamp) = planned_rolled f (Stmt-F.Drop spot group stamp)
     (λ p inside keep k pk alike view state. (refl, ap (λ (n : ℤ). Delete (group_id group) (stamp_at n)) (uniform_value f stamp keep.0.uniform view state), refl, λ reply. alike (view_after view reply) state))
 

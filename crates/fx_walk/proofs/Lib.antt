@@ -3,3 +3,4 @@ mod InStep
 mod Rows
 mod Shared
 mod Steps
+mod TwoRanks

@@ -12,7 +12,7 @@ use Rattle.fx_check.specs.Rules.{expr_uniform_level, expr_uniform, count_of}
 use Rattle.fx_walk.specs.declared.action.View.{View}
 use Rattle.fx_walk.specs.State.{State, counter_slot}
 use Rattle.fx_walk.specs.Values.{Sight, sight, value_level, value_of}
-use Rattle.fx_walk.specs.Plan.{Shared, shared_of, shared_sight}
+use Rattle.fx_walk.specs.Plan.{shared_of, shared_sight}
 
 -- what two ranks see alike
 record SameSight (x y : Sight) : Type 0 where

@@ -4,3 +4,4 @@ pub mod Walk
 pub mod Along
 pub mod Callbacks
 pub mod Plan
+pub mod InStep

@@ -32,10 +32,10 @@ shared_of view state = record { size = view.size; latest = view.latest; counters
 -- what an expression sees that sees nothing else
 abbrev pub shared_sight : Shared → Sight
 shared_sight shared = record {
-    view = record { role = role.Initial; rank = 0; size = shared.size; latest = shared.latest };
-    state = record { counters = shared.counters; arrays = []; callbacks = [] };
-    index = 0
-  }
+  view = record { role = role.Initial; rank = 0; size = shared.size; latest = shared.latest };
+  state = record { counters = shared.counters; arrays = []; callbacks = [] };
+  index = 0;
+}
 
 -- an outward statement without what is one rank's own: its number, its flag, its elements
 pub data Common : Type 0 where

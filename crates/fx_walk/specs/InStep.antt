@@ -1,0 +1,70 @@
+-- What two ranks that are in step have in common, blocks of `when` aside.
+use Rattle.std.specs.Prelude.{◌≡◌, ℤ, Bool, true, false, List, [], ◌∷◌, Option}
+use Rattle.fx_base.specs.declared.spot.Spot.{Spot}
+use Rattle.fx_walk.specs.Walk.{Reply, Walk, Ends, Passes, Prints, Asks}
+use Rattle.fx_walk.specs.Plan.{Common, common_of, number_of}
+
+-- a statement that a rank has come past: its place, what all ranks ask there, and the counters there
+pub record Met : Type 0 where
+  pub spot : Spot
+  pub common : Common
+  pub counters : List ℤ
+
+-- what a reply sets that all ranks see: a counter, if it is given a number, and the newest stamps
+pub record Effect : Type 0 where
+  pub number : Option ℤ
+  pub latest : List ℤ
+
+abbrev pub effect_of : Reply → Effect
+effect_of reply = record { number = number_of reply.given; latest = reply.latest }
+
+-- with this one in front, unless it stands inside `when`
+abbrev pub unless_inside : {A : Type 0} → Bool → A → List A → List A
+unless_inside true x xs = xs
+unless_inside false x xs = x ∷ xs
+
+-- the statements outside `when` that a walk has come past with these replies
+abbrev pub met : Walk → List Reply → List Met
+met (Ends state) replies = []
+met (Passes rest) replies = met rest replies
+met (Prints printed rest) replies = met rest replies
+met (Asks place wanted state rest) [] = []
+met (Asks place wanted state rest) (reply ∷ replies) =
+    unless_inside place.in_when (record { spot = place.spot; common = common_of wanted; counters = state.counters }) (met (rest reply) replies)
+
+-- what the replies to those set
+abbrev pub effects : Walk → List Reply → List Effect
+effects (Ends state) replies = []
+effects (Passes rest) replies = effects rest replies
+effects (Prints printed rest) replies = effects rest replies
+effects (Asks place wanted state rest) [] = []
+effects (Asks place wanted state rest) (reply ∷ replies) = unless_inside place.in_when (effect_of reply) (effects (rest reply) replies)
+
+-- a reply to a statement inside `when` leaves the newest stamps as they were
+abbrev pub StampsStay : Walk → List ℤ → List Reply → Type 0
+StampsStay (Ends state) latest replies = Unit {0}
+StampsStay (Passes rest) latest replies = StampsStay rest latest replies
+StampsStay (Prints printed rest) latest replies = StampsStay rest latest replies
+StampsStay (Asks place wanted state rest) latest [] = Unit {0}
+StampsStay (Asks place wanted state rest) latest (reply ∷ replies) = (place.in_when ≡ true → reply.latest ≡ latest) × StampsStay (rest reply) reply.latest replies
+
+-- where a walk next has to do with others: at its end or at a statement outside `when`, if it doesn't wait inside one
+pub data Next : Type 0 where
+  Inside : Next
+  End : (counters : List ℤ) → Next
+  Meeting : (here : Met) → Next
+
+abbrev pub next_at : Bool → Met → Next
+next_at true here = Inside
+next_at false here = Meeting here
+
+abbrev pub next_of : Walk → Next
+next_of (Ends state) = End state.counters
+next_of (Passes rest) = next_of rest
+next_of (Prints printed rest) = next_of rest
+next_of (Asks place wanted state rest) = next_at place.in_when (record { spot = place.spot; common = common_of wanted; counters = state.counters })
+
+abbrev pub is_outside : Next → Bool
+is_outside Inside = false
+is_outside (End counters) = true
+is_outside (Meeting here) = true
