@@ -3,6 +3,7 @@ use Rattle.std.specs.Prelude.{◌≡◌, ℕ, ℤ, pos, negsuc, List, [], ◌∷
 use Rattle.std.specs.FinMap as finite
 use Rattle.std.specs.Ordering.{nat_cmp}
 use Rattle.fx_base.specs.declared.names.Op.TheVariants as op
+use Rattle.fx_base.specs.declared.names.Role.{Role}
 use Rattle.fx_base.specs.declared.names.Role.TheVariants as role
 use Rattle.fx_base.specs.declared.spot.Spot.{Spot}
 use Rattle.fx_script.specs.declared.expr.Expr.{Expr}
@@ -19,7 +20,9 @@ use Rattle.fx_walk.specs.declared.action.View.{View}
 use Rattle.fx_walk.specs.declared.wanted.Wanted.TheVariants as wanted
 use Rattle.fx_walk.specs.State.{State, blank, restored_from}
 use Rattle.fx_walk.specs.Walk.{Given, Nothing, Number, Elements, Entries, Reply, Walk, Ends, Passes, Prints, walk_of, group_id, member_id, stamp_at}
-use Rattle.fx_walk.specs.Along.{Output, Print, Ask, outputs, AtEnd, AtAsk, stop_of}
+use Rattle.fx_walk.specs.Along.{Output, Print, Ask, outputs, AtEnd, AtAsk, stop_of, rest_after}
+use Rattle.fx_walk.specs.Plan.{Common, Group, Attach, Close}
+use Rattle.fx_walk.specs.InStep.{Met, met, Next, Inside, next_of}
 use Rattle.fx_walk.specs.Callbacks.{no_latest, view_at_init, callbacks_at_init, body_start}
 use Rattle.fx_walk.proofs.Steps.{levels}
 
@@ -310,3 +313,37 @@ stores : outputs (walk_of group_facts (stmt.Store here (pos 0) (pos 0) (picked.S
     ≡ Ask (wanted.Store (group_id (pos 0)) (member_id (pos 0)) (finite.from_sorted ((0, pos 5) ∷ (2, pos 15) ∷ []))) ∷ []
 unfolding blocks_of
 stores = simp levels
+
+-- ---- two ranks in step: group 0 5 0 / member 0 0 a / when initial / store 0 0 full / endwhen / commitbarrier 0
+
+abbrev at_line : ℕ → Spot
+at_line line = record { line = line; column = 1 }
+
+abbrev aside_body : List Stmt
+aside_body =
+    stmt.Group (at_line 9) (pos 0) (pos 5) (pos 0)
+    ∷ stmt.Member (at_line 10) (pos 0) (pos 0) a
+    ∷ stmt.RoleOnly (at_line 11) role.Initial (stmt.Store (at_line 12) (pos 0) (pos 0) picked.Full ∷ [])
+    ∷ stmt.CommitBarrier (at_line 14) (pos 0)
+    ∷ []
+
+abbrev aside_walk : Role → Walk
+aside_walk kind = walk_of group_facts aside_body (view_at_init kind 0 2) (blank group_facts)
+
+abbrev met_by_both : List Met
+met_by_both =
+    record { spot = at_line 9; common = Group (group_id (pos 0)) (stamp_at (pos 5)) 0; counters = [] }
+    ∷ record { spot = at_line 10; common = Attach (group_id (pos 0)) (member_id (pos 0)); counters = [] }
+    ∷ record { spot = at_line 14; common = Close (group_id (pos 0)); counters = [] }
+    ∷ []
+
+-- the first rank is given a reply more, to the store inside `when`
+met_with_store : met (aside_walk role.Initial) (given Nothing ∷ given Nothing ∷ given Nothing ∷ given Nothing ∷ []) ≡ met_by_both
+met_with_store = simp levels
+
+met_without : met (aside_walk role.Recovered) (given Nothing ∷ given Nothing ∷ given Nothing ∷ []) ≡ met_by_both
+met_without = simp levels
+
+-- while it waits at the store it has nothing to do with others
+waits_inside : next_of (rest_after (aside_walk role.Initial) (given Nothing ∷ given Nothing ∷ [])) ≡ Inside
+waits_inside = simp levels

@@ -1,8 +1,12 @@
 -- What two ranks that are in step have in common, blocks of `when` aside.
 use Rattle.std.specs.Prelude.{◌≡◌, ℤ, Bool, true, false, List, [], ◌∷◌, Option}
 use Rattle.fx_base.specs.declared.spot.Spot.{Spot}
-use Rattle.fx_walk.specs.Walk.{Reply, Walk, Ends, Passes, Prints, Asks}
-use Rattle.fx_walk.specs.Plan.{Common, common_of, number_of}
+use Rattle.fx_script.specs.declared.job.Job.{Job}
+use Rattle.fx_check.specs.Facts.{facts_of}
+use Rattle.fx_walk.specs.declared.action.View.{View}
+use Rattle.fx_walk.specs.State.{State}
+use Rattle.fx_walk.specs.Walk.{Reply, Walk, Ends, Passes, Prints, Asks, walk_of}
+use Rattle.fx_walk.specs.Plan.{Shared, shared_of, Common, common_of, number_of, Plan, plan_of}
 
 -- a statement that a rank has come past: its place, what all ranks ask there, and the counters there
 pub record Met : Type 0 where
@@ -68,3 +72,18 @@ abbrev pub is_outside : Next → Bool
 is_outside Inside = false
 is_outside (End counters) = true
 is_outside (Meeting here) = true
+
+-- ---- two ranks of a job
+
+abbrev pub job_walk : Job → View → State → Walk
+job_walk job view state = walk_of (facts_of job) job.body view state
+
+abbrev pub job_plan : Job → Shared → Plan
+job_plan job shared = plan_of (facts_of job) job.body shared
+
+-- two ranks began alike, and were given alike what all ranks see of it
+pub record AreGivenAlike (job : Job) (one other : View) (state beside : State) (replies others : List Reply) : Type 0 where
+  pub begun : shared_of one state ≡ shared_of other beside
+  pub one_stays : StampsStay (job_walk job one state) one.latest replies
+  pub other_stays : StampsStay (job_walk job other beside) other.latest others
+  pub same : effects (job_walk job one state) replies ≡ effects (job_walk job other beside) others

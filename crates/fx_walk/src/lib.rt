@@ -1,5 +1,5 @@
-//! What the statements of a job mean: the walk of a body from a state, along the answers that it is given. Definitions, laws and
-//! the types that they speak of, no code.
+//! What the statements of a job mean: the walk of a body from a state, along what it is answered.
+//! Definitions, laws, and the types that they speak of.
 #![tactic(auto)]
 
 mod action;
