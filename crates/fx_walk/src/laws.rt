@@ -30,13 +30,9 @@ pub fn all_ranks_have_one_plan()
 /// places of the text, with the same groups, members and stamps, and with the same counters. And
 /// they come next to the same one, or to the end, where neither waits inside a `when`.
 pub fn ranks_are_in_step()
-    ensures past {
-        (job : Job) → KeepsByParts job → (one other : View) (state beside : State) (replies others : List Reply) → AreGivenAlike job one other state beside replies others
-        → met (job_walk job one state) replies ≡ met (job_walk job other beside) others
-    }
-    ensures next {
-        (job : Job) → KeepsByParts job → (one other : View) (state beside : State) (replies others : List Reply) → AreGivenAlike job one other state beside replies others
+    ensures past { (job : Job) → KeepsByParts job → (one other : View) (state beside : State) (replies others : List Reply) → AreGivenAlike job one other state beside replies others
+        → met (job_walk job one state) replies ≡ met (job_walk job other beside) others }
+    ensures next { (job : Job) → KeepsByParts job → (one other : View) (state beside : State) (replies others : List Reply) → AreGivenAlike job one other state beside replies others
         → is_outside (next_of (rest_after (job_walk job one state) replies)) ≡ true → is_outside (next_of (rest_after (job_walk job other beside) others)) ≡ true
-        → next_of (rest_after (job_walk job one state) replies) ≡ next_of (rest_after (job_walk job other beside) others)
-    }
+        → next_of (rest_after (job_walk job one state) replies) ≡ next_of (rest_after (job_walk job other beside) others) }
 {}

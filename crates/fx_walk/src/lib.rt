@@ -10,3 +10,6 @@ mod wanted;
 pub use action::{At, View};
 pub use printed::{CallbackRun, Called, Printed, Prints};
 pub use wanted::Wanted;
+
+#[cfg(test)]
+mod tests;
