@@ -16,8 +16,8 @@ use Rattle.fx_check.specs.Rules.{body_place, inside_when, inside_if, inside_for,
 use Rattle.fx_walk.specs.declared.action.View.{View}
 use Rattle.fx_walk.specs.State.{State, with_counter}
 use Rattle.fx_walk.specs.Values.{sight, value_of, holds}
-use Rattle.fx_walk.specs.Walk.{Given, Nothing, Number, Elements, Entries, Reply, Walk, Onward, Turn, in_turn, looped, turns_of, is_same_role, member_array, sets_counter, sets_elements, sets_entries, view_after, walk_level, walk, walks, walk_of, ended, group_id, member_id, stamp_at}
-use Rattle.fx_walk.specs.Plan.{Shared, shared_of, shared_sight, Restore, Delete, number_of, Plan, PlanOnward, PlanTurn, planned, plan_looped, set_to, set_if, plan_level, plan, plans, plan_of, Keeps}
+use Rattle.fx_walk.specs.Walk.{Given, Nothing, Number, Elements, Entries, Reply, Walk, Onward, Meaning, in_turn, looped, turns_of, is_same_role, member_array, sets_counter, sets_elements, sets_entries, view_after, walk_level, walk, walks, walk_of, ended, group_id, member_id, stamp_at}
+use Rattle.fx_walk.specs.Plan.{Shared, shared_of, shared_sight, Restore, Delete, number_of, Plan, PlanOnward, PlanMeaning, planned, plan_looped, set_to, set_if, plan_level, plan, plans, plan_of, Keeps}
 use Rattle.fx_walk.proofs.Shared.{uniform_value}
 
 -- ---- lines
@@ -61,10 +61,10 @@ IsQuiet f s = (p : Surroundings) → p.in_when ≡ true → KeepRules (stmt_line
 
 quiet_rolled : (f : Facts) (x : Stmt-F Stmt)
     → ((p : Surroundings) → p.in_when ≡ true → KeepRules (stmt_lines_level f (map-Stmt Stmt (Surroundings → List Line) (stmt_lines f) x) p) → (k : Onward) (u : Plan) (view : View) (cs : List ℤ) → Rests k u view cs
-    → Rests (walk_level f (map-Stmt Stmt Turn (walk f) x) true k) u view cs)
+    → Rests (walk_level f (map-Stmt Stmt Meaning (walk f) x) true k) u view cs)
     → IsQuiet f (roll-Stmt x)
 quiet_rolled f x level p inside keep k u view cs rests =
-    subst (λ (t : Turn). Rests (t true k) u view cs) (sym (fold-roll-Stmt Turn (walk_level f) x))
+    subst (λ (t : Meaning). Rests (t true k) u view cs) (sym (fold-roll-Stmt Meaning (walk_level f) x))
     (level p inside (subst (λ (l : Surroundings → List Line). KeepRules (l p)) (fold-roll-Stmt (Surroundings → List Line) (stmt_lines_level f) x) keep) k u view cs rests)
 
 not_true : (b : Bool) → b ≡ true → not b ≡ true → ⊥
@@ -135,11 +135,11 @@ IsPlanned f s = (p : Surroundings) → p.in_when ≡ false → KeepRules (stmt_l
 
 planned_rolled : (f : Facts) (x : Stmt-F Stmt)
     → ((p : Surroundings) → p.in_when ≡ false → KeepRules (stmt_lines_level f (map-Stmt Stmt (Surroundings → List Line) (stmt_lines f) x) p) → (k : Onward) (pk : PlanOnward) → Alike k pk
-    → Alike (walk_level f (map-Stmt Stmt Turn (walk f) x) false k) (plan_level f (map-Stmt Stmt PlanTurn (plan f) x) pk))
+    → Alike (walk_level f (map-Stmt Stmt Meaning (walk f) x) false k) (plan_level f (map-Stmt Stmt PlanMeaning (plan f) x) pk))
     → IsPlanned f (roll-Stmt x)
 planned_rolled f x level p inside keep k pk alike =
-    subst (λ (t : Turn). Alike (t false k) (plan f (roll-Stmt x) pk)) (sym (fold-roll-Stmt Turn (walk_level f) x))
-    (subst (λ (t : PlanTurn). Alike (walk_level f (map-Stmt Stmt Turn (walk f) x) false k) (t pk)) (sym (fold-roll-Stmt PlanTurn (plan_level f) x))
+    subst (λ (t : Meaning). Alike (t false k) (plan f (roll-Stmt x) pk)) (sym (fold-roll-Stmt Meaning (walk_level f) x))
+    (subst (λ (t : PlanMeaning). Alike (walk_level f (map-Stmt Stmt Meaning (walk f) x) false k) (t pk)) (sym (fold-roll-Stmt PlanMeaning (plan_level f) x))
     (level p inside (subst (λ (l : Surroundings → List Line). KeepRules (l p)) (fold-roll-Stmt (Surroundings → List Line) (stmt_lines_level f) x) keep) k pk alike))
 
 planned_list : (f : Facts) (ts : List ((s : Stmt) × IsPlanned f s)) (p : Surroundings) → p.in_when ≡ false → KeepRules (lines_at (map (stmt_lines f) (map (λ t. t.0) ts)) p)
@@ -158,7 +158,7 @@ tested test a b c d e g x y m n latest one other = subst (λ (t : Bool). Keeps (
   sides true = one
   sides false = other
 
-turns_planned : (f : Facts) (counter : List ℕ) (body : Turn) (plan_body : PlanTurn) → ((k : Onward) (pk : PlanOnward) → Alike k pk → Alike (body false k) (plan_body pk))
+turns_planned : (f : Facts) (counter : List ℕ) (body : Meaning) (plan_body : PlanMeaning) → ((k : Onward) (pk : PlanOnward) → Alike k pk → Alike (body false k) (plan_body pk))
     → (n value : ℕ) (k : Onward) (pk : PlanOnward) → Alike k pk → Alike (looped f counter body n value false k) (plan_looped f counter plan_body n value pk)
 turns_planned f counter body plan_body inner zero value k pk alike view state = alike view state
 turns_planned f counter body plan_body inner (suc n) value k pk alike view state =

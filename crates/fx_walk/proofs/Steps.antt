@@ -20,10 +20,10 @@ use Rattle.fx_check.specs.Facts.{Facts}
 use Rattle.fx_walk.specs.declared.action.View.{View}
 use Rattle.fx_walk.specs.State.{State}
 use Rattle.fx_walk.specs.Values.{Sight, value_level, value_of}
-use Rattle.fx_walk.specs.Walk.{Onward, Turn, walk_level, walk}
+use Rattle.fx_walk.specs.Walk.{Onward, Meaning, walk_level, walk}
 
-walking : (f : Facts) (x : Stmt-F Stmt) (s : Stmt) → roll-Stmt x ≡ s → (inside : Bool) (k : Onward) (view : View) (state : State) → walk f s inside k view state ≡ walk_level f (map-Stmt Stmt Turn (walk f) x) inside k view state
-walking f x s is inside k view state = ap (λ (t : Turn). t inside k view state) (ap (walk f) (sym is) ∙ fold-roll-Stmt Turn (walk_level f) x)
+walking : (f : Facts) (x : Stmt-F Stmt) (s : Stmt) → roll-Stmt x ≡ s → (inside : Bool) (k : Onward) (view : View) (state : State) → walk f s inside k view state ≡ walk_level f (map-Stmt Stmt Meaning (walk f) x) inside k view state
+walking f x s is inside k view state = ap (λ (t : Meaning). t inside k view state) (ap (walk f) (sym is) ∙ fold-roll-Stmt Meaning (walk_level f) x)
 
 pub let_at : (f : Facts) (spot : Spot) (array : List ℕ) (value : Expr) (inside : Bool) (k : Onward) (view : View) (state : State)
     → walk f (stmt.Let spot array value) inside k view state ≡ walk_level f (Stmt-F.Let spot array value) inside k view state

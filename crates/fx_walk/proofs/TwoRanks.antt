@@ -12,21 +12,11 @@ use Rattle.fx_walk.specs.declared.wanted.Wanted.{Wanted}
 use Rattle.fx_walk.specs.State.{State}
 use Rattle.fx_walk.specs.Walk.{Reply, Walk, Ends, Passes, Prints, Asks, walk_of}
 use Rattle.fx_walk.specs.Along.{rest_after}
-use Rattle.fx_walk.specs.Plan.{Shared, shared_of, Common, common_of, number_of, Plan, Stops, Meets, plan_of, AsksBy, Keeps}
-use Rattle.fx_walk.specs.InStep.{Met, Effect, effect_of, unless_inside, met, effects, StampsStay, Next, End, Meeting, next_at, next_of, is_outside}
+use Rattle.fx_walk.specs.Plan.{Shared, shared_of, Common, common_of, number_set, Plan, Stops, Meets, plan_of, AsksBy, Keeps}
+use Rattle.fx_walk.specs.InStep.{Met, Effect, effect_of, unless_inside, met, effects, StampsStay, latest_after, plan_met, plan_after, Next, End, Meeting, next_at, next_of, is_outside}
 use Rattle.fx_walk.proofs.InStep.{keeps_to_plan}
 
 -- ---- a plan along effects
-
-abbrev plan_met : Plan → List Effect → List Met
-plan_met (Stops counters) es = []
-plan_met (Meets spot common counters rest) [] = []
-plan_met (Meets spot common counters rest) (e ∷ es) = record { spot = spot; common = common; counters = counters } ∷ plan_met (rest e.number e.latest) es
-
-abbrev plan_after : Plan → List Effect → Plan
-plan_after (Stops counters) es = Stops counters
-plan_after (Meets spot common counters rest) [] = Meets spot common counters rest
-plan_after (Meets spot common counters rest) (e ∷ es) = plan_after (rest e.number e.latest) es
 
 abbrev plan_next : Plan → Next
 plan_next (Stops counters) = End counters
@@ -43,45 +33,44 @@ none_after (Meets spot common counters rest) = refl
 -- ---- a walk along replies
 
 -- with these replies a walk has met what its plan has with their effects, and keeps to what is left of the plan
-record IsAlong (w : Walk) (plan : Plan) (replies : List Reply) : Type 0 where
-  past : met w replies ≡ plan_met plan (effects w replies)
-  latest : List ℤ
-  keeps : Keeps (rest_after w replies) (plan_after plan (effects w replies)) latest
+pub record IsAlong (w : Walk) (plan : Plan) (latest : List ℤ) (replies : List Reply) : Type 0 where
+  pub past : met w replies ≡ plan_met plan (effects w replies)
+  pub keeps : Keeps (rest_after w replies) (plan_after plan (effects w replies)) (latest_after w latest replies)
 
 nothing_yet : (w : Walk) (plan : Plan) (latest : List ℤ) → Keeps w plan latest → (m : List Met) (es : List Effect) → m ≡ [] → es ≡ [] → (m ≡ plan_met plan es) × Keeps w (plan_after plan es) latest
 nothing_yet w plan latest keeps m es none nothing =
     (none ∙ none_met plan ∙ ap (plan_met plan) (sym nothing), subst (λ (p : Plan). Keeps w p latest) (none_after plan ∙ ap (plan_after plan) (sym nothing)) keeps)
 
 module _ (spot : Spot) (wanted : Wanted) (state : State) (rest : Reply → Walk) (reply : Reply) (replies : List Reply)
-    (later : (plan : Plan) (latest : List ℤ) → Keeps (rest reply) plan latest → StampsStay (rest reply) latest replies → IsAlong (rest reply) plan replies) where
+    (later : (plan : Plan) (latest : List ℤ) → Keeps (rest reply) plan latest → StampsStay (rest reply) latest replies → IsAlong (rest reply) plan latest replies) where
   abbrev here : Met
   here = record { spot = spot; common = common_of wanted; counters = state.counters }
 
   abbrev Came : Bool → Plan → Type 0
   Came inside plan =
-      (unless_inside inside here (met (rest reply) replies) ≡ plan_met plan (unless_inside inside (effect_of reply) (effects (rest reply) replies)))
-      × ((latest : List ℤ) × Keeps (rest_after (rest reply) replies) (plan_after plan (unless_inside inside (effect_of reply) (effects (rest reply) replies))) latest)
+      (unless_inside inside here (met (rest reply) replies) ≡ plan_met plan (unless_inside inside (effect_of (common_of wanted) reply) (effects (rest reply) replies)))
+      × Keeps (rest_after (rest reply) replies) (plan_after plan (unless_inside inside (effect_of (common_of wanted) reply) (effects (rest reply) replies))) (latest_after (rest reply) reply.latest replies)
 
   came : (inside : Bool) (plan : Plan) (latest : List ℤ) → AsksBy inside plan spot (common_of wanted) state latest (λ left r. Keeps (rest r) left r.latest)
       → (inside ≡ true → reply.latest ≡ latest) → StampsStay (rest reply) reply.latest replies → Came inside plan
   came true plan latest asks same stay =
       let along = later plan reply.latest (subst (λ (l : List ℤ). Keeps (rest (record { given = reply.given; latest = l })) plan l) (sym (same refl)) (asks.1 reply.given)) stay in
-      (along.past, (along.latest, along.keeps))
+      (along.past, along.keeps)
   came false (Stops counters) latest asks same stay = absurd asks
   came false (Meets at due counters left) latest asks same stay =
-      let along = later (left (number_of reply.given) reply.latest) reply.latest (asks.3 reply) stay in
-      (cc (asks.0, asks.1, asks.2, along.past), (along.latest, along.keeps))
+      let along = later (left (number_set (common_of wanted) reply.given) reply.latest) reply.latest (asks.3 reply) stay in
+      (cc (asks.0, asks.1, asks.2, along.past), along.keeps)
 
-along : (w : Walk) (plan : Plan) (latest : List ℤ) → Keeps w plan latest → (replies : List Reply) → StampsStay w latest replies → IsAlong w plan replies
+along : (w : Walk) (plan : Plan) (latest : List ℤ) → Keeps w plan latest → (replies : List Reply) → StampsStay w latest replies → IsAlong w plan latest replies
 along (Ends state) plan latest keeps replies stay =
-    let so = nothing_yet (Ends state) plan latest keeps [] [] refl refl in record { past = so.0; latest = latest; keeps = so.1 }
-along (Passes rest) plan latest keeps replies stay = let so = along rest plan latest keeps replies stay in record { past = so.past; latest = so.latest; keeps = so.keeps }
-along (Prints printed rest) plan latest keeps replies stay = let so = along rest plan latest keeps replies stay in record { past = so.past; latest = so.latest; keeps = so.keeps }
+    let so = nothing_yet (Ends state) plan latest keeps [] [] refl refl in record { past = so.0; keeps = so.1 }
+along (Passes rest) plan latest keeps replies stay = let so = along rest plan latest keeps replies stay in record { past = so.past; keeps = so.keeps }
+along (Prints printed rest) plan latest keeps replies stay = let so = along rest plan latest keeps replies stay in record { past = so.past; keeps = so.keeps }
 along (Asks place wanted state rest) plan latest keeps [] stay =
-    let so = nothing_yet (Asks place wanted state rest) plan latest keeps [] [] refl refl in record { past = so.0; latest = latest; keeps = so.1 }
+    let so = nothing_yet (Asks place wanted state rest) plan latest keeps [] [] refl refl in record { past = so.0; keeps = so.1 }
 along (Asks place wanted state rest) plan latest keeps (reply ∷ replies) stay =
     let so = came place.spot wanted state rest reply replies (λ left l kept stays. along (rest reply) left l kept replies stays) place.in_when plan latest keeps stay.0 stay.1 in
-    record { past = so.0; latest = so.1.0; keeps = so.1.1 }
+    record { past = so.0; keeps = so.1 }
 
 -- ---- where it next has to do with others
 
@@ -102,6 +91,30 @@ next_kept (Passes rest) plan latest keeps outside = next_kept rest plan latest k
 next_kept (Prints printed rest) plan latest keeps outside = next_kept rest plan latest keeps outside
 next_kept (Asks place wanted state rest) plan latest keeps outside = next_asked place.in_when plan place.spot (common_of wanted) state latest _ keeps outside
 
+-- ---- the newest stamps
+
+abbrev stamps_after : List ℤ → List Effect → List ℤ
+stamps_after latest [] = latest
+stamps_after latest (e ∷ es) = stamps_after e.latest es
+
+stamp_step : (inside : Bool) (common : Common) (reply : Reply) (latest last : List ℤ) (es : List Effect) → (inside ≡ true → reply.latest ≡ latest)
+    → last ≡ stamps_after reply.latest es → last ≡ stamps_after latest (unless_inside inside (effect_of common reply) es)
+stamp_step true common reply latest last es same is = is ∙ ap (λ (l : List ℤ). stamps_after l es) (same refl)
+stamp_step false common reply latest last es same is = is
+
+stamps : (w : Walk) (latest : List ℤ) (replies : List Reply) → StampsStay w latest replies → latest_after w latest replies ≡ stamps_after latest (effects w replies)
+stamps (Ends state) latest replies stay = refl
+stamps (Passes rest) latest replies stay = stamps rest latest replies stay
+stamps (Prints printed rest) latest replies stay = stamps rest latest replies stay
+stamps (Asks place wanted state rest) latest [] stay = refl
+stamps (Asks place wanted state rest) latest (reply ∷ replies) stay = stamp_step place.in_when (common_of wanted) reply latest _ (effects (rest reply) replies) stay.0 (stamps (rest reply) reply.latest replies stay.1)
+
+-- ---- one rank
+
+pub along_plan : (f : Facts) (body : List Stmt) → KeepRules (stmts_lines f body body_place) → (view : View) (state : State) (replies : List Reply) → StampsStay (walk_of f body view state) view.latest replies
+    → IsAlong (walk_of f body view state) (plan_of f body (shared_of view state)) view.latest replies
+along_plan f body rules view state replies stay = along (walk_of f body view state) (plan_of f body (shared_of view state)) view.latest (keeps_to_plan f body rules view state) replies stay
+
 -- ---- two ranks
 
 module _ (f : Facts) (body : List Stmt) (rules : KeepRules (stmts_lines f body body_place)) (view other : View) (state beside : State) (alike : shared_of view state ≡ shared_of other beside)
@@ -110,10 +123,10 @@ module _ (f : Facts) (body : List Stmt) (rules : KeepRules (stmts_lines f body b
   abbrev one_plan : Plan
   one_plan = plan_of f body (shared_of view state)
 
-  one : IsAlong (walk_of f body view state) one_plan replies
-  one = along (walk_of f body view state) one_plan view.latest (keeps_to_plan f body rules view state) replies stay
+  one : IsAlong (walk_of f body view state) one_plan view.latest replies
+  one = along_plan f body rules view state replies stay
 
-  two : IsAlong (walk_of f body other beside) one_plan others
+  two : IsAlong (walk_of f body other beside) one_plan other.latest others
   two = along (walk_of f body other beside) one_plan other.latest
       (subst (λ (shared : Shared). Keeps (walk_of f body other beside) (plan_of f body shared) other.latest) (sym alike) (keeps_to_plan f body rules other beside)) others stays
 
@@ -123,6 +136,13 @@ module _ (f : Facts) (body : List Stmt) (rules : KeepRules (stmts_lines f body b
   pub same_next : is_outside (next_of (rest_after (walk_of f body view state) replies)) ≡ true → is_outside (next_of (rest_after (walk_of f body other beside) others)) ≡ true
       → next_of (rest_after (walk_of f body view state) replies) ≡ next_of (rest_after (walk_of f body other beside) others)
   same_next outside outsides =
-      next_kept (rest_after (walk_of f body view state) replies) _ one.latest one.keeps outside
+      next_kept (rest_after (walk_of f body view state) replies) _ _ one.keeps outside
       ∙ ap (λ (es : List Effect). plan_next (plan_after one_plan es)) same
-      ∙ sym (next_kept (rest_after (walk_of f body other beside) others) _ two.latest two.keeps outsides)
+      ∙ sym (next_kept (rest_after (walk_of f body other beside) others) _ _ two.keeps outsides)
+
+  pub same_stamps : latest_after (walk_of f body view state) view.latest replies ≡ latest_after (walk_of f body other beside) other.latest others
+  same_stamps =
+      stamps (walk_of f body view state) view.latest replies stay
+      ∙ ap (λ (shared : Shared). stamps_after shared.latest (effects (walk_of f body view state) replies)) alike
+      ∙ ap (stamps_after other.latest) same
+      ∙ sym (stamps (walk_of f body other beside) other.latest others stays)

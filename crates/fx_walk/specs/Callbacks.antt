@@ -32,17 +32,19 @@ callback_body f name = body_or_none (find (is_call_of name) f.callbacks)
 -- the prints among what is shown
 abbrev pub prints_of : List Output → List Printed
 prints_of [] = []
-prints_of (Print printed ∷ outputs) = printed ∷ prints_of outputs
-prints_of (Ask wanted ∷ outputs) = prints_of outputs
+prints_of (Print printed ∷ more) = printed ∷ prints_of more
+prints_of (Ask wanted ∷ more) = prints_of more
 
+-- the state where a walk stands
 abbrev pub state_at : Stop → State
 state_at (AtEnd state) = state
 state_at (AtAsk wanted state) = state
 
--- what a callback prints, and the state behind it: it asks nothing
+-- what a callback prints: it asks nothing
 abbrev pub called_of : Facts → View → State → List ℕ → Called
 called_of f view state name = record { name = name; prints = prints_of (outputs (walk_of f (callback_body f name) view state) []) }
 
+-- the state that a callback leaves
 abbrev pub state_behind : Facts → View → State → List ℕ → State
 state_behind f view state name = state_at (stop_of (walk_of f (callback_body f name) view state) [])
 
@@ -59,6 +61,7 @@ state_behind_all f view state (name ∷ names) = state_behind_all f view (state_
 abbrev pub callback_run : Facts → View → State → List Called
 callback_run f view state = calls_of f view state state.callbacks
 
+-- the state that they leave
 abbrev pub state_behind_callbacks : Facts → View → State → State
 state_behind_callbacks f view state = state_behind_all f view state state.callbacks
 

@@ -6,21 +6,23 @@ use Rattle.fx_check.specs.Facts.{facts_of}
 use Rattle.fx_walk.specs.declared.action.View.{View}
 use Rattle.fx_walk.specs.State.{State}
 use Rattle.fx_walk.specs.Walk.{Reply, Walk, Ends, Passes, Prints, Asks, walk_of}
-use Rattle.fx_walk.specs.Plan.{Shared, shared_of, Common, common_of, number_of, Plan, plan_of}
+use Rattle.fx_walk.specs.Plan.{Shared, shared_of, Common, common_of, number_set, Plan, Stops, Meets, plan_of}
 
--- a statement that a rank has come past: its place, what all ranks ask there, and the counters there
+-- A statement that a rank has come past: its spot, what all ranks ask there, and the counters there. The spot is its place in the text
+-- where each statement has a spot of its own; what is left of the plan tells the place in any job.
 pub record Met : Type 0 where
   pub spot : Spot
   pub common : Common
   pub counters : List ℤ
 
--- what a reply sets that all ranks see: a counter, if it is given a number, and the newest stamps
+-- what a reply sets that all ranks see: the number in a counter, if it sets one, and the newest stamps
 pub record Effect : Type 0 where
   pub number : Option ℤ
   pub latest : List ℤ
 
-abbrev pub effect_of : Reply → Effect
-effect_of reply = record { number = number_of reply.given; latest = reply.latest }
+-- what this statement's reply sets
+abbrev pub effect_of : Common → Reply → Effect
+effect_of common reply = record { number = number_set common reply.given; latest = reply.latest }
 
 -- with this one in front, unless it stands inside `when`
 abbrev pub unless_inside : {A : Type 0} → Bool → A → List A → List A
@@ -42,7 +44,7 @@ effects (Ends state) replies = []
 effects (Passes rest) replies = effects rest replies
 effects (Prints printed rest) replies = effects rest replies
 effects (Asks place wanted state rest) [] = []
-effects (Asks place wanted state rest) (reply ∷ replies) = unless_inside place.in_when (effect_of reply) (effects (rest reply) replies)
+effects (Asks place wanted state rest) (reply ∷ replies) = unless_inside place.in_when (effect_of (common_of wanted) reply) (effects (rest reply) replies)
 
 -- a reply to a statement inside `when` leaves the newest stamps as they were
 abbrev pub StampsStay : Walk → List ℤ → List Reply → Type 0
@@ -51,6 +53,25 @@ StampsStay (Passes rest) latest replies = StampsStay rest latest replies
 StampsStay (Prints printed rest) latest replies = StampsStay rest latest replies
 StampsStay (Asks place wanted state rest) latest [] = Unit {0}
 StampsStay (Asks place wanted state rest) latest (reply ∷ replies) = (place.in_when ≡ true → reply.latest ≡ latest) × StampsStay (rest reply) reply.latest replies
+
+-- the newest stamps where the replies run out
+abbrev pub latest_after : Walk → List ℤ → List Reply → List ℤ
+latest_after (Ends state) latest replies = latest
+latest_after (Passes rest) latest replies = latest_after rest latest replies
+latest_after (Prints printed rest) latest replies = latest_after rest latest replies
+latest_after (Asks place wanted state rest) latest [] = latest
+latest_after (Asks place wanted state rest) latest (reply ∷ replies) = latest_after (rest reply) reply.latest replies
+
+-- what a plan has come past with these effects, and what is left of it
+abbrev pub plan_met : Plan → List Effect → List Met
+plan_met (Stops counters) effects = []
+plan_met (Meets spot common counters rest) [] = []
+plan_met (Meets spot common counters rest) (e ∷ es) = record { spot = spot; common = common; counters = counters } ∷ plan_met (rest e.number e.latest) es
+
+abbrev pub plan_after : Plan → List Effect → Plan
+plan_after (Stops counters) effects = Stops counters
+plan_after (Meets spot common counters rest) [] = Meets spot common counters rest
+plan_after (Meets spot common counters rest) (e ∷ es) = plan_after (rest e.number e.latest) es
 
 -- where a walk next has to do with others: at its end or at a statement outside `when`, if it doesn't wait inside one
 pub data Next : Type 0 where
@@ -62,6 +83,7 @@ abbrev pub next_at : Bool → Met → Next
 next_at true here = Inside
 next_at false here = Meeting here
 
+-- past its plain actions
 abbrev pub next_of : Walk → Next
 next_of (Ends state) = End state.counters
 next_of (Passes rest) = next_of rest

@@ -51,6 +51,7 @@ pub data Common : Type 0 where
   Restore : (group : GroupId) (member : MemberId) (stamp : Stamp) → Common
   Delete : (group : GroupId) (stamp : Stamp) → Common
 
+-- the operands that are the same on all ranks
 abbrev pub common_of : Wanted → Common
 common_of wanted.Barrier = Barrier
 common_of (wanted.Reduce o own) = Reduce o
@@ -64,7 +65,7 @@ common_of (wanted.Close group) = Close group
 common_of (wanted.Restore group member stamp) = Restore group member stamp
 common_of (wanted.Delete group stamp) = Delete group stamp
 
--- a statement that may stand inside `when`
+-- a statement that may stand inside `when`: a rank carries it out alone, and it changes no stamp
 abbrev pub may_stand_in_when : Common → Bool
 may_stand_in_when (Attach group member) = true
 may_stand_in_when (Store group member) = true
@@ -76,10 +77,16 @@ abbrev pub number_of : walked.Given → Option ℤ
 number_of (walked.Number n) = Some n
 number_of other = None
 
+-- what a statement sets in a counter: only a reduce and an agree set what they are given
+abbrev pub number_set : Common → walked.Given → Option ℤ
+number_set (Reduce o) given = number_of given
+number_set Agree given = number_of given
+number_set other given = None
+
 -- ---- plans
 
 -- What is left of a walk for all ranks alike, blocks of `when` aside: the counters at its end; or a place of the text, what is asked
--- there, and the counters there, and what is left by the number that is given and the newest stamps after it.
+-- there, and the counters there, and what is left by the number that is set and the newest stamps after it.
 pub data Plan : Type 0 where
   Stops : (counters : List ℤ) → Plan
   Meets : (spot : Spot) (common : Common) (counters : List ℤ) (rest : Option ℤ → List ℤ → Plan) → Plan
@@ -87,16 +94,16 @@ pub data Plan : Type 0 where
 abbrev pub PlanOnward : Type 0
 PlanOnward = Shared → Plan
 
-abbrev pub PlanTurn : Type 0
-PlanTurn = PlanOnward → PlanOnward
+abbrev pub PlanMeaning : Type 0
+PlanMeaning = PlanOnward → PlanOnward
 
-abbrev pub planned : List PlanTurn → PlanTurn
+abbrev pub planned : List PlanMeaning → PlanMeaning
 planned [] onward = onward
-planned (turn ∷ turns) onward = turn (planned turns onward)
+planned (meaning ∷ meanings) onward = meaning (planned meanings onward)
 
-abbrev pub planned_if : Option (List PlanTurn) → PlanTurn
+abbrev pub planned_if : Option (List PlanMeaning) → PlanMeaning
 planned_if None onward = onward
-planned_if (Some turns) onward = planned turns onward
+planned_if (Some meanings) onward = planned meanings onward
 
 abbrev pub set_to : Facts → List ℕ → Shared → ℤ → Shared
 set_to f counter shared n = record shared { counters = slice_set shared.counters (counter_slot f.names counter) n }
@@ -105,18 +112,19 @@ abbrev pub set_if : Facts → List ℕ → Shared → Option ℤ → Shared
 set_if f counter shared None = shared
 set_if f counter shared (Some n) = set_to f counter shared n
 
-abbrev pub plan_looped : Facts → List ℕ → PlanTurn → ℕ → ℕ → PlanTurn
+abbrev pub plan_looped : Facts → List ℕ → PlanMeaning → ℕ → ℕ → PlanMeaning
 plan_looped f counter body zero value onward shared = onward shared
 plan_looped f counter body (suc left) value onward shared = body (plan_looped f counter body left (value + 1) onward) (set_to f counter shared (pos value))
 
-abbrev pub meets : Spot → Common → PlanTurn
+abbrev pub meets : Spot → Common → PlanMeaning
 meets spot common onward shared = Meets spot common shared.counters (λ number latest. onward (record shared { latest = latest }))
 
 -- the number that is given is set in a counter
-abbrev pub meets_for : Facts → Spot → Common → List ℕ → PlanTurn
+abbrev pub meets_for : Facts → Spot → Common → List ℕ → PlanMeaning
 meets_for f spot common counter onward shared = Meets spot common shared.counters (λ number latest. onward (record (set_if f counter shared number) { latest = latest }))
 
-abbrev pub plan_level : Facts → Stmt-F PlanTurn → PlanTurn
+-- the plan of a statement: only a set, a branch, a loop and what is asked outside `when` count
+abbrev pub plan_level : Facts → Stmt-F PlanMeaning → PlanMeaning
 plan_level f (Stmt-F.Let spot array value) onward shared = onward shared
 plan_level f (Stmt-F.Set spot counter value) onward shared = onward (set_to f counter shared (value_of f value (shared_sight shared)))
 plan_level f (Stmt-F.Print spot name) onward shared = onward shared
@@ -139,10 +147,10 @@ plan_level f (Stmt-F.Restore spot group member stamp) onward shared =
     meets spot (Restore (walked.group_id group) (walked.member_id member) (walked.stamp_at (value_of f stamp (shared_sight shared)))) onward shared
 plan_level f (Stmt-F.Drop spot group stamp) onward shared = meets spot (Delete (walked.group_id group) (walked.stamp_at (value_of f stamp (shared_sight shared)))) onward shared
 
-abbrev pub plan : Facts → Stmt → PlanTurn
-plan f = fold-Stmt PlanTurn (plan_level f)
+abbrev pub plan : Facts → Stmt → PlanMeaning
+plan f = fold-Stmt PlanMeaning (plan_level f)
 
-abbrev pub plans : Facts → List Stmt → PlanTurn
+abbrev pub plans : Facts → List Stmt → PlanMeaning
 plans f statements = planned (map (plan f) statements)
 
 -- the plan of statements and nothing behind them
@@ -151,14 +159,16 @@ plan_of f statements = plans f statements (λ shared. Stops shared.counters)
 
 -- ---- a walk keeps to a plan
 
+-- the walk's end is the plan's, with its counters
 abbrev pub StopsAs : Plan → State → Type 0
 StopsAs (Stops counters) state = state.counters ≡ counters
 StopsAs (Meets spot common counters rest) state = ⊥
 
+-- the statement is the plan's next: its place, its common operands, the counters there
 abbrev pub MeetsAs : Plan → Spot → Common → State → (Plan → walked.Reply → Type 0) → Type 0
 MeetsAs (Stops counters) spot common state Keeps = ⊥
 MeetsAs (Meets at due counters rest) spot common state Keeps =
-    (spot ≡ at) × (common ≡ due) × (state.counters ≡ counters) × ((reply : walked.Reply) → Keeps (rest (number_of reply.given) reply.latest) reply)
+    (spot ≡ at) × (common ≡ due) × (state.counters ≡ counters) × ((reply : walked.Reply) → Keeps (rest (number_set common reply.given) reply.latest) reply)
 
 -- A statement inside `when` is asked beside the plan, whatever it is given, and leaves the newest stamps as they are. Any other is the
 -- next of the plan, and what is left of the plan is the same for all that are given the same number and the same stamps.

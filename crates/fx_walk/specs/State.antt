@@ -53,6 +53,7 @@ abbrev pub restored_from : ℕ → FinMap nat_cmp ℤ → List ℤ → List ℤ
 restored_from i entries [] = []
 restored_from i entries (old ∷ olds) = value_or old (get entries i) ∷ restored_from (i + 1) entries olds
 
+-- an array with the values of a map at exactly its indices
 abbrev pub with_entries : Facts → State → List ℕ → FinMap nat_cmp ℤ → State
 with_entries f state name entries = with_elements f state name (restored_from 0 entries (elements_of f state name))
 

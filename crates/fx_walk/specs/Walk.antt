@@ -56,9 +56,9 @@ pub data Walk : Type 0 where
 abbrev pub Onward : Type 0
 Onward = View → State → Walk
 
--- a statement, by whether it stands inside `when`, goes before what comes behind it
-abbrev pub Turn : Type 0
-Turn = Bool → Onward → Onward
+-- what a statement means, by whether it stands inside `when`: it goes before what comes behind it
+abbrev pub Meaning : Type 0
+Meaning = Bool → Onward → Onward
 
 -- ---- parts of statements
 
@@ -69,18 +69,18 @@ is_same_role role.Recovered role.Recovered = true
 is_same_role a b = false
 
 -- one statement after another
-abbrev pub in_turn : List Turn → Turn
+abbrev pub in_turn : List Meaning → Meaning
 in_turn [] inside onward = onward
-in_turn (turn ∷ turns) inside onward = turn inside (in_turn turns inside onward)
+in_turn (meaning ∷ meanings) inside onward = meaning inside (in_turn meanings inside onward)
 
 -- the other list of a branch, if there is one
-abbrev pub in_turn_if : Option (List Turn) → Turn
+abbrev pub in_turn_if : Option (List Meaning) → Meaning
 in_turn_if None inside onward = onward
-in_turn_if (Some turns) inside onward = in_turn turns inside onward
+in_turn_if (Some meanings) inside onward = in_turn meanings inside onward
 
 -- A loop before its test, with so many turns left, of which the next has this value. The test is an action, also the last one. Each
 -- turn begins by setting the counter.
-abbrev pub looped : Facts → List ℕ → Turn → ℕ → ℕ → Turn
+abbrev pub looped : Facts → List ℕ → Meaning → ℕ → ℕ → Meaning
 looped f counter body zero value inside onward view state = Passes (onward view state)
 looped f counter body (suc left) value inside onward view state =
     Passes (body inside (looped f counter body left (value + 1) inside onward) view (with_counter f state counter (pos value)))
@@ -90,6 +90,7 @@ abbrev pub turns_of : ℤ → ℤ → ℕ
 turns_of first (pos last) = suc last - count_of first
 turns_of first (negsuc last) = 0
 
+-- an array's elements, or a counter's one value
 abbrev pub printed_of : Facts → State → List ℕ → Printed
 printed_of f state name = record { name = name; values = if is_array f.names name then elements_of f state name else counter_of f state name ∷ [] }
 
@@ -128,32 +129,37 @@ stamp_at stamp = record { 0 = stamp }
 
 -- ---- what is given changes the state, where it is of the kind that the statement takes
 
+-- a number is set in the counter
 abbrev pub sets_counter : Facts → List ℕ → State → Given → State
 sets_counter f counter state (Number n) = with_counter f state counter n
 sets_counter f counter state other = state
 
+-- elements become those of the array
 abbrev pub sets_elements : Facts → List ℕ → State → Given → State
 sets_elements f array state (Elements elements) = with_elements f state array elements
 sets_elements f array state other = state
 
+-- a map's elements are written at exactly its indices of the array
 abbrev pub sets_entries : Facts → List ℕ → State → Given → State
 sets_entries f array state (Entries entries) = with_entries f state array entries
 sets_entries f array state other = state
 
-abbrev pub keeps : State → Given → State
-keeps state given = state
+-- whatever is given
+abbrev pub unchanged : State → Given → State
+unchanged state given = state
 
 -- what is seen after a reply
 abbrev pub view_after : View → Reply → View
 view_after view reply = record view { latest = reply.latest }
 
-abbrev pub asks : Spot → Wanted → (Given → State) → Turn
+-- a statement that asks, and goes on with what it makes of the state
+abbrev pub asks : Spot → Wanted → (Given → State) → Meaning
 asks spot wanted made inside onward view state = Asks (record { spot = spot; in_when = inside }) wanted state (λ reply. onward (view_after view reply) (made reply.given))
 
 -- ---- statements
 
 -- `let` computes all elements from the old arrays, and then writes them
-abbrev pub walk_level : Facts → Stmt-F Turn → Turn
+abbrev pub walk_level : Facts → Stmt-F Meaning → Meaning
 walk_level f (Stmt-F.Let spot array value) inside onward view state =
     Passes (onward view (with_elements f state array (values_from f value (sight view state) 0 (elements_of f state array))))
 walk_level f (Stmt-F.Set spot counter value) inside onward view state = Passes (onward view (with_counter f state counter (value_of f value (sight view state))))
@@ -164,7 +170,7 @@ walk_level f (Stmt-F.Branch spot test left right body other) inside onward view 
     Passes (if holds test (value_of f left (sight view state)) (value_of f right (sight view state)) then in_turn body inside onward view state else in_turn_if other inside onward view state)
 walk_level f (Stmt-F.Loop spot counter first last body) inside onward view state =
     looped f counter (in_turn body) (turns_of (value_of f first (sight view state)) last) (count_of (value_of f first (sight view state))) inside onward view state
-walk_level f (Stmt-F.Barrier spot) inside onward view state = asks spot wanted.Barrier (keeps state) inside onward view state
+walk_level f (Stmt-F.Barrier spot) inside onward view state = asks spot wanted.Barrier (unchanged state) inside onward view state
 walk_level f (Stmt-F.Reduce spot o counter array) inside onward view state =
     asks spot (wanted.Reduce o (reduced o (elements_of f state array))) (sets_counter f counter state) inside onward view state
 walk_level f (Stmt-F.Agree spot counter array index) inside onward view state =
@@ -172,21 +178,21 @@ walk_level f (Stmt-F.Agree spot counter array index) inside onward view state =
 walk_level f (Stmt-F.Shift spot source target by) inside onward view state =
     asks spot (wanted.Shift (count_of by) (elements_of f state source)) (sets_elements f target state) inside onward view state
 walk_level f (Stmt-F.Group spot group start depth) inside onward view state =
-    asks spot (wanted.Group (group_id group) (stamp_at start) (count_of depth)) (keeps state) inside onward view state
-walk_level f (Stmt-F.Member spot group member array) inside onward view state = asks spot (wanted.Attach (group_id group) (member_id member)) (keeps state) inside onward view state
+    asks spot (wanted.Group (group_id group) (stamp_at start) (count_of depth)) (unchanged state) inside onward view state
+walk_level f (Stmt-F.Member spot group member array) inside onward view state = asks spot (wanted.Attach (group_id group) (member_id member)) (unchanged state) inside onward view state
 walk_level f (Stmt-F.Store spot group member subset) inside onward view state =
-    asks spot (wanted.Store (group_id group) (member_id member) (stored subset (elements_of f state (member_array f group member)))) (keeps state) inside onward view state
-walk_level f (Stmt-F.Commit spot group) inside onward view state = asks spot (wanted.Commit (group_id group)) (keeps state) inside onward view state
-walk_level f (Stmt-F.CommitBarrier spot group) inside onward view state = asks spot (wanted.Close (group_id group)) (keeps state) inside onward view state
+    asks spot (wanted.Store (group_id group) (member_id member) (stored subset (elements_of f state (member_array f group member)))) (unchanged state) inside onward view state
+walk_level f (Stmt-F.Commit spot group) inside onward view state = asks spot (wanted.Commit (group_id group)) (unchanged state) inside onward view state
+walk_level f (Stmt-F.CommitBarrier spot group) inside onward view state = asks spot (wanted.Close (group_id group)) (unchanged state) inside onward view state
 walk_level f (Stmt-F.Restore spot group member stamp) inside onward view state =
     asks spot (wanted.Restore (group_id group) (member_id member) (stamp_at (value_of f stamp (sight view state)))) (sets_entries f (member_array f group member) state) inside onward view state
 walk_level f (Stmt-F.Drop spot group stamp) inside onward view state =
-    asks spot (wanted.Delete (group_id group) (stamp_at (value_of f stamp (sight view state)))) (keeps state) inside onward view state
+    asks spot (wanted.Delete (group_id group) (stamp_at (value_of f stamp (sight view state)))) (unchanged state) inside onward view state
 
-abbrev pub walk : Facts → Stmt → Turn
-walk f = fold-Stmt Turn (walk_level f)
+abbrev pub walk : Facts → Stmt → Meaning
+walk f = fold-Stmt Meaning (walk_level f)
 
-abbrev pub walks : Facts → List Stmt → Turn
+abbrev pub walks : Facts → List Stmt → Meaning
 walks f statements = in_turn (map (walk f) statements)
 
 -- where the statements are done the walk ends
