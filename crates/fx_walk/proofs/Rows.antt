@@ -303,10 +303,10 @@ agrees : outputs (walk_of plain_facts (stmt.Agree here c a (pos 1) ∷ print c �
     ≡ Ask (wanted.Agree (pos 6)) ∷ prints c (pos 4 ∷ []) ∷ []
 agrees = simp levels
 
--- a commit and a drop change nothing of the state, whatever they are given
-closes_and_drops : stop_of (walk_of plain_facts (stmt.Commit here (pos 2) ∷ stmt.Drop here (pos 2) (expr.Name c) ∷ []) alone (blank plain_facts)) (given (Number (pos 4)) ∷ [])
+-- a commit changes nothing of the state, whatever it is given, and a drop's stamp is computed
+commits_and_drops : stop_of (walk_of plain_facts (stmt.Commit here (pos 2) ∷ stmt.Drop here (pos 2) (expr.Name c) ∷ []) alone (blank plain_facts)) (given (Number (pos 4)) ∷ [])
     ≡ AtAsk (wanted.Delete (group_id (pos 2)) (stamp_at (pos 0))) (blank plain_facts)
-closes_and_drops = simp levels
+commits_and_drops = simp levels
 
 -- two blocks of one index, two apart, of the array that is attached
 stores : outputs (walk_of group_facts (stmt.Store here (pos 0) (pos 0) (picked.Strided (pos 2) (pos 0) (pos 0) (pos 2)) ∷ []) alone (record { counters = []; arrays = (pos 5 ∷ pos 10 ∷ pos 15 ∷ []) ∷ []; callbacks = [] })) []
@@ -347,3 +347,168 @@ met_without = simp levels
 -- while it waits at the store it has nothing to do with others
 waits_inside : next_of (rest_after (aside_walk role.Initial) (given Nothing ∷ given Nothing ∷ [])) ≡ Inside
 waits_inside = simp levels
+
+-- ---- groups and members that differ: let a + index 10 / let b 9 / group 2 5 3 / member 2 1 b / member 2 4 a / store 2 4 full /
+-- store 2 1 empty / restore 2 1 + c 6 / print b / print a / commit 2
+
+abbrev member_facts : Facts
+member_facts = record {
+    names = array_decl a (pos 3) ∷ array_decl b (pos 3) ∷ counter_decl c ∷ [];
+    callbacks = [];
+    created = record { group = pos 2; start = pos 5; depth = pos 3 } ∷ [];
+    attached = record { group = pos 2; member = pos 1; array = b } ∷ record { group = pos 2; member = pos 4; array = a } ∷ []
+  }
+
+abbrev member_body : List Stmt
+member_body =
+    stmt.Let here a (expr.Add expr.Index (n (pos 10)))
+    ∷ stmt.Let here b (n (pos 9))
+    ∷ stmt.Group here (pos 2) (pos 5) (pos 3)
+    ∷ stmt.Member here (pos 2) (pos 1) b
+    ∷ stmt.Member here (pos 2) (pos 4) a
+    ∷ stmt.Store here (pos 2) (pos 4) picked.Full
+    ∷ stmt.Store here (pos 2) (pos 1) picked.Empty
+    ∷ stmt.Restore here (pos 2) (pos 1) (expr.Add (expr.Name c) (n (pos 6)))
+    ∷ print b
+    ∷ print a
+    ∷ stmt.Commit here (pos 2)
+    ∷ []
+
+abbrev two_entries : List (ℕ × ℤ)
+two_entries = (0, pos 3) ∷ (2, pos 4) ∷ []
+
+abbrev two_restored : finite.FinMap nat_cmp ℤ
+two_restored = finite.from_sorted two_entries
+
+two_at : (i : ℕ) → finite.get two_restored i ≡ finite.find nat_cmp i two_entries
+two_at i = finite.get-from_sorted nat_cmp two_entries i tt
+
+abbrev member_replies : List Reply
+member_replies = given Nothing ∷ given Nothing ∷ given Nothing ∷ given Nothing ∷ given Nothing ∷ given (Entries two_restored) ∷ []
+
+members : outputs (walk_of member_facts member_body (view_at_init role.Initial 1 4) (blank member_facts)) member_replies
+    ≡ Ask (wanted.Group (group_id (pos 2)) (stamp_at (pos 5)) 3)
+    ∷ Ask (wanted.Attach (group_id (pos 2)) (member_id (pos 1)))
+    ∷ Ask (wanted.Attach (group_id (pos 2)) (member_id (pos 4)))
+    ∷ Ask (wanted.Store (group_id (pos 2)) (member_id (pos 4)) (finite.from_sorted ((0, pos 10) ∷ (1, pos 11) ∷ (2, pos 12) ∷ [])))
+    ∷ Ask (wanted.Store (group_id (pos 2)) (member_id (pos 1)) (finite.from_sorted []))
+    ∷ Ask (wanted.Restore (group_id (pos 2)) (member_id (pos 1)) (stamp_at (pos 6)))
+    ∷ prints b (pos 3 ∷ pos 9 ∷ pos 4 ∷ [])
+    ∷ prints a (pos 10 ∷ pos 11 ∷ pos 12 ∷ [])
+    ∷ Ask (wanted.Commit (group_id (pos 2)))
+    ∷ []
+members = simp (levels, two_at)
+
+-- ---- what a rank sees: group 2 5 3 / let a - size index / barrier / min c a / max d a / set c latest 2 / print c / print d /
+-- drop 2 - c 1 / when recovered / print c / endwhen
+
+abbrev d : List ℕ
+d = codes "d"
+
+abbrev sight_facts : Facts
+sight_facts = with_names (array_decl a (pos 3) ∷ counter_decl c ∷ counter_decl d ∷ [])
+
+abbrev sight_body : List Stmt
+sight_body =
+    stmt.Group here (pos 2) (pos 5) (pos 3)
+    ∷ stmt.Let here a (expr.Sub expr.Size expr.Index)
+    ∷ stmt.Barrier here
+    ∷ stmt.Reduce here op.Min c a
+    ∷ stmt.Reduce here op.Max d a
+    ∷ set c (expr.Latest (pos 2))
+    ∷ print c
+    ∷ print d
+    ∷ stmt.Drop here (pos 2) (expr.Sub (expr.Name c) (n (pos 1)))
+    ∷ stmt.RoleOnly here role.Recovered (print c ∷ [])
+    ∷ []
+
+abbrev told : Given → Reply
+told what = record { given = what; latest = pos 10 ∷ pos 11 ∷ pos 12 ∷ pos 13 ∷ pos 14 ∷ pos 15 ∷ pos 16 ∷ pos 17 ∷ [] }
+
+abbrev sight_walk : Walk
+sight_walk = walk_of sight_facts sight_body (view_at_init role.Recovered 1 4) (blank sight_facts)
+
+abbrev sight_replies : List Reply
+sight_replies = told Nothing ∷ told Nothing ∷ told (Number (pos 2)) ∷ told (Number (pos 4)) ∷ told Nothing ∷ []
+
+sees : outputs sight_walk sight_replies
+    ≡ Ask (wanted.Group (group_id (pos 2)) (stamp_at (pos 5)) 3)
+    ∷ Ask wanted.Barrier
+    ∷ Ask (wanted.Reduce op.Min (pos 2))
+    ∷ Ask (wanted.Reduce op.Max (pos 4))
+    ∷ prints c (pos 12 ∷ [])
+    ∷ prints d (pos 4 ∷ [])
+    ∷ Ask (wanted.Delete (group_id (pos 2)) (stamp_at (pos 11)))
+    ∷ prints c (pos 12 ∷ [])
+    ∷ []
+sees = simp levels
+
+sees_at_end : stop_of sight_walk sight_replies ≡ AtEnd (record { counters = pos 12 ∷ pos 4 ∷ []; arrays = (pos 4 ∷ pos 3 ∷ pos 2 ∷ []) ∷ []; callbacks = [] })
+sees_at_end = simp levels
+
+-- ---- tests, each with a digit of its own
+
+abbrev adds : ℤ → Stmt
+adds value = set d (expr.Add (expr.Name d) (n value))
+
+abbrev tests_body : List Stmt
+tests_body =
+    set c (n (pos 1))
+    ∷ stmt.Branch here test.Lt (expr.Name c) (n (pos 2)) (adds (pos 1) ∷ []) None
+    ∷ stmt.Branch here test.Lt (n (pos 2)) (expr.Name c) (adds (pos 10) ∷ []) None
+    ∷ stmt.Branch here test.Lt (expr.Sub (n (pos 0)) (n (pos 1))) (n (pos 0)) (adds (pos 100) ∷ []) None
+    ∷ stmt.Branch here test.Le (n (pos 2)) (expr.Name c) (adds (pos 1000) ∷ []) None
+    ∷ stmt.Branch here test.Le (expr.Name c) (n (pos 2)) (adds (pos 10000) ∷ []) None
+    ∷ stmt.Branch here test.Eq (expr.Name c) (n (pos 2)) (adds (pos 100000) ∷ []) None
+    ∷ print d
+    ∷ []
+
+tells_apart : shown tests_body ≡ prints d (pos 10101 ∷ []) ∷ []
+tells_apart = simp levels
+
+-- ---- a callback that reads all that a rank sees: let a + a + * c 1000 + * rank 100 + * size 10 latest 0 / print a / print c
+
+abbrev reading_facts : Facts
+reading_facts = record {
+    names = array_decl a (pos 1) ∷ counter_decl c ∷ [];
+    callbacks = record {
+        spot = here;
+        name = codes "n";
+        body =
+            stmt.Let here a (expr.Add (expr.Name a) (expr.Add (expr.Mul (expr.Name c) (n (pos 1000)))
+                (expr.Add (expr.Mul expr.Rank (n (pos 100))) (expr.Add (expr.Mul expr.Size (n (pos 10))) (expr.Latest (pos 0))))))
+            ∷ print a
+            ∷ print c
+            ∷ []
+      } ∷ [];
+    created = record { group = pos 0; start = pos 5; depth = pos 0 } ∷ [];
+    attached = []
+  }
+
+abbrev reading_before : State
+reading_before = record { counters = pos 4 ∷ []; arrays = (pos 1 ∷ []) ∷ []; callbacks = codes "n" ∷ [] }
+
+reads_all : callbacks_at_init reading_facts role.Survivor 2 3 reading_before
+    ≡ record { name = codes "n"; prints = record { name = a; values = pos 230 ∷ [] } ∷ record { name = c; values = pos 0 ∷ [] } ∷ [] } ∷ []
+reads_all = simp levels
+
+reads_leave : body_start reading_facts role.Survivor 2 3 reading_before ≡ record { counters = pos 0 ∷ []; arrays = (pos 230 ∷ []) ∷ []; callbacks = codes "n" ∷ [] }
+reads_leave = simp levels
+
+initial_runs_none : callbacks_at_init reading_facts role.Initial 2 3 reading_before ≡ []
+initial_runs_none = refl
+
+-- ---- loops in loops, and a reply that sets a loop's own counter
+
+nested : shown (stmt.Loop here c (n (pos 0)) (pos 1) (stmt.Loop here d (expr.Name c) (pos 1) (print c ∷ print d ∷ []) ∷ []) ∷ print d ∷ [])
+    ≡ prints c (pos 0 ∷ []) ∷ prints d (pos 0 ∷ []) ∷ prints c (pos 0 ∷ []) ∷ prints d (pos 1 ∷ []) ∷ prints c (pos 1 ∷ []) ∷ prints d (pos 1 ∷ []) ∷ prints d (pos 1 ∷ []) ∷ []
+nested = simp levels
+
+set_by_reply : outputs (walk_of plain_facts (stmt.Loop here c (n (pos 0)) (pos 2) (stmt.Reduce here op.Sum c a ∷ print c ∷ []) ∷ print c ∷ []) alone (blank plain_facts))
+        (given (Number (pos 9)) ∷ given (Number (pos 9)) ∷ given (Number (pos 9)) ∷ [])
+    ≡ Ask (wanted.Reduce op.Sum (pos 0)) ∷ prints c (pos 9 ∷ []) ∷ Ask (wanted.Reduce op.Sum (pos 0)) ∷ prints c (pos 9 ∷ []) ∷ Ask (wanted.Reduce op.Sum (pos 0)) ∷ prints c (pos 9 ∷ []) ∷ prints c (pos 9 ∷ []) ∷ []
+set_by_reply = simp levels
+
+-- a callback that a body registers twice is registered once
+registers_once : stop_of (walk_of group_facts (stmt.Register here note ∷ stmt.Register here note ∷ []) alone (blank group_facts)) [] ≡ AtEnd (record { counters = []; arrays = (pos 0 ∷ pos 0 ∷ []) ∷ []; callbacks = note ∷ [] })
+registers_once = simp levels

@@ -1,11 +1,11 @@
 -- A walk along replies: what it shows, and where it stands when they run out.
-use Rattle.std.specs.Prelude.{List, [], ◌∷◌}
+use Rattle.std.specs.Prelude.{◌≡◌, refl, List, [], ◌∷◌}
 use Rattle.fx_walk.specs.declared.action.At.{At}
 use Rattle.fx_walk.specs.declared.action.At.TheVariants as at
 use Rattle.fx_walk.specs.declared.printed.Printed.{Printed}
 use Rattle.fx_walk.specs.declared.wanted.Wanted.{Wanted}
 use Rattle.fx_walk.specs.State.{State}
-use Rattle.fx_walk.specs.Walk.{Reply, Walk, Ends, Passes, Prints, Asks}
+use Rattle.fx_walk.specs.Walk.{TextPlace, Reply, Walk, Ends, Passes, Prints, Asks}
 
 -- what a walk shows
 pub data Output : Type 0 where
@@ -55,3 +55,8 @@ at_of (Ends state) = at.Finish
 at_of (Passes rest) = at.Plain
 at_of (Prints printed rest) = at.Plain
 at_of (Asks place wanted state rest) = at.Outward
+
+-- the kinds of the next action
+kinds : (place : TextPlace) (printed : Printed) (wanted : Wanted) (state : State) (rest : Reply → Walk)
+    → (at_of (Passes (Ends state)) ≡ at.Plain) × (at_of (Prints printed (Ends state)) ≡ at.Plain) × (at_of (Asks place wanted state rest) ≡ at.Outward) × (at_of (Ends state) ≡ at.Finish)
+kinds place printed wanted state rest = (refl, refl, refl, refl)

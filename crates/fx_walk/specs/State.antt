@@ -109,6 +109,10 @@ survives = refl
 recovers : at_init row_facts role.Recovered row_state ≡ record { counters = pos 0 ∷ pos 0 ∷ []; arrays = (pos 0 ∷ pos 0 ∷ []) ∷ []; callbacks = [] }
 recovers = refl
 
+-- and an initial one hasn't begun
+begins : at_init row_facts role.Initial row_state ≡ blank row_facts
+begins = refl
+
 -- a second registration changes nothing, and a first one stands last
 registered_twice : with_callback row_state (codes "n") ≡ row_state
 registered_twice = refl
