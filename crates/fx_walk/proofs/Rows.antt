@@ -3,13 +3,13 @@ use Rattle.std.specs.Prelude.{◌≡◌, ℕ, ℤ, pos, negsuc, List, [], ◌∷
 use Rattle.std.specs.FinMap as finite
 use Rattle.std.specs.Ordering.{nat_cmp}
 use Rattle.fx_base.specs.declared.names.Op.TheVariants as op
-use Rattle.fx_base.specs.declared.names.Role.{Role}
 use Rattle.fx_base.specs.declared.names.Role.TheVariants as role
 use Rattle.fx_base.specs.declared.spot.Spot.{Spot}
 use Rattle.fx_script.specs.declared.expr.Expr.{Expr}
 use Rattle.fx_script.specs.declared.expr.Expr.TheVariants as expr
 use Rattle.fx_script.specs.declared.job.Decl.{Decl}
 use Rattle.fx_script.specs.declared.job.Decl.TheVariants as decl
+use Rattle.fx_script.specs.declared.job.Job.{Job}
 use Rattle.fx_script.specs.declared.job.Picked.TheVariants as picked
 use Rattle.fx_script.specs.declared.job.Stmt.{Stmt}
 use Rattle.fx_script.specs.declared.job.Stmt.TheVariants as stmt
@@ -19,10 +19,10 @@ use Rattle.fx_check.specs.Facts.{Facts}
 use Rattle.fx_walk.specs.declared.action.View.{View}
 use Rattle.fx_walk.specs.declared.wanted.Wanted.TheVariants as wanted
 use Rattle.fx_walk.specs.State.{State, blank, restored_from}
-use Rattle.fx_walk.specs.Walk.{Given, Nothing, Number, Elements, Entries, Reply, Walk, Ends, Passes, Prints, walk_of, group_id, member_id, stamp_at}
+use Rattle.fx_walk.specs.Walk.{Given, Nothing, Number, Elements, Entries, Reply, Walk, Ends, Passes, Prints, walk_of, picked_from, group_id, member_id, stamp_at}
 use Rattle.fx_walk.specs.Along.{Output, Print, Ask, outputs, AtEnd, AtAsk, stop_of, rest_after}
-use Rattle.fx_walk.specs.Plan.{Common, Group, Attach, Close}
-use Rattle.fx_walk.specs.InStep.{Met, met, Next, Inside, next_of}
+use Rattle.fx_walk.specs.Plan.{Group, Attach, Reduce, Close}
+use Rattle.fx_walk.specs.InStep.{met, AreGivenAlike, Inside, Meeting, job_walk, next_of}
 use Rattle.fx_walk.specs.Callbacks.{no_latest, view_at_init, callbacks_at_init, body_start}
 use Rattle.fx_walk.proofs.Steps.{levels}
 
@@ -314,38 +314,64 @@ stores : outputs (walk_of group_facts (stmt.Store here (pos 0) (pos 0) (picked.S
 unfolding blocks_of
 stores = simp levels
 
--- ---- two ranks in step: group 0 5 0 / member 0 0 a / when initial / store 0 0 full / endwhen / commitbarrier 0
+-- ---- two ranks in step: set c 3 / group 0 5 0 / member 0 0 a / when initial / store 0 0 full / endwhen / sum c a / commitbarrier 0
 
 abbrev at_line : ℕ → Spot
 at_line line = record { line = line; column = 1 }
 
-abbrev aside_body : List Stmt
-aside_body =
-    stmt.Group (at_line 9) (pos 0) (pos 5) (pos 0)
-    ∷ stmt.Member (at_line 10) (pos 0) (pos 0) a
-    ∷ stmt.RoleOnly (at_line 11) role.Initial (stmt.Store (at_line 12) (pos 0) (pos 0) picked.Full ∷ [])
-    ∷ stmt.CommitBarrier (at_line 14) (pos 0)
+abbrev aside_job : Job
+aside_job = record {
+  ranks = pos 2;
+  spares = pos 0;
+  separation = pos 1;
+  ranks_spot = at_line 2;
+  spares_spot = at_line 3;
+  separation_spot = at_line 4;
+  begin_spot = at_line 7;
+  names = array_decl a (pos 2) ∷ counter_decl c ∷ [];
+  callbacks = [];
+  body =
+      stmt.Set (at_line 8) c (n (pos 3))
+      ∷ stmt.Group (at_line 9) (pos 0) (pos 5) (pos 0)
+      ∷ stmt.Member (at_line 10) (pos 0) (pos 0) a
+      ∷ stmt.RoleOnly (at_line 11) role.Initial (stmt.Store (at_line 12) (pos 0) (pos 0) picked.Full ∷ [])
+      ∷ stmt.Reduce (at_line 14) op.Sum c a
+      ∷ stmt.CommitBarrier (at_line 15) (pos 0)
+      ∷ [];
+  events = [];
+}
+
+abbrev aside_state : State
+aside_state = record { counters = pos 0 ∷ []; arrays = (pos 0 ∷ pos 0 ∷ []) ∷ []; callbacks = [] }
+
+-- the first rank is given a reply more, to the store inside `when`; the number that a group is given sets nothing
+abbrev with_store : List Reply
+with_store = given Nothing ∷ given Nothing ∷ given Nothing ∷ given (Number (pos 9)) ∷ []
+
+abbrev without_store : List Reply
+without_store = given (Number (pos 4)) ∷ given Nothing ∷ given (Number (pos 9)) ∷ []
+
+in_step : AreGivenAlike aside_job (view_at_init role.Initial 0 2) (view_at_init role.Recovered 1 2) aside_state aside_state with_store without_store
+in_step = record {
+  begun = refl;
+  one_stays = simp levels ((λ h. refl), ((λ h. refl), ((λ h. refl), ((λ h. refl), tt))));
+  other_stays = simp levels ((λ h. refl), ((λ h. refl), ((λ h. refl), tt)));
+  same = simp levels;
+}
+
+met_with_store : met (job_walk aside_job (view_at_init role.Initial 0 2) aside_state) with_store ≡
+    record { spot = at_line 9; common = Group (group_id (pos 0)) (stamp_at (pos 5)) 0; counters = pos 3 ∷ [] }
+    ∷ record { spot = at_line 10; common = Attach (group_id (pos 0)) (member_id (pos 0)); counters = pos 3 ∷ [] }
+    ∷ record { spot = at_line 14; common = Reduce op.Sum; counters = pos 3 ∷ [] }
     ∷ []
-
-abbrev aside_walk : Role → Walk
-aside_walk kind = walk_of group_facts aside_body (view_at_init kind 0 2) (blank group_facts)
-
-abbrev met_by_both : List Met
-met_by_both =
-    record { spot = at_line 9; common = Group (group_id (pos 0)) (stamp_at (pos 5)) 0; counters = [] }
-    ∷ record { spot = at_line 10; common = Attach (group_id (pos 0)) (member_id (pos 0)); counters = [] }
-    ∷ record { spot = at_line 14; common = Close (group_id (pos 0)); counters = [] }
-    ∷ []
-
--- the first rank is given a reply more, to the store inside `when`
-met_with_store : met (aside_walk role.Initial) (given Nothing ∷ given Nothing ∷ given Nothing ∷ given Nothing ∷ []) ≡ met_by_both
 met_with_store = simp levels
 
-met_without : met (aside_walk role.Recovered) (given Nothing ∷ given Nothing ∷ given Nothing ∷ []) ≡ met_by_both
-met_without = simp levels
+meets_next : next_of (rest_after (job_walk aside_job (view_at_init role.Recovered 1 2) aside_state) without_store)
+    ≡ Meeting (record { spot = at_line 15; common = Close (group_id (pos 0)); counters = pos 9 ∷ [] })
+meets_next = simp levels
 
 -- while it waits at the store it has nothing to do with others
-waits_inside : next_of (rest_after (aside_walk role.Initial) (given Nothing ∷ given Nothing ∷ [])) ≡ Inside
+waits_inside : next_of (rest_after (job_walk aside_job (view_at_init role.Initial 0 2) aside_state) (given Nothing ∷ given Nothing ∷ [])) ≡ Inside
 waits_inside = simp levels
 
 -- ---- groups and members that differ: let a + index 10 / let b 9 / group 2 5 3 / member 2 1 b / member 2 4 a / store 2 4 full /
@@ -353,11 +379,11 @@ waits_inside = simp levels
 
 abbrev member_facts : Facts
 member_facts = record {
-    names = array_decl a (pos 3) ∷ array_decl b (pos 3) ∷ counter_decl c ∷ [];
-    callbacks = [];
-    created = record { group = pos 2; start = pos 5; depth = pos 3 } ∷ [];
-    attached = record { group = pos 2; member = pos 1; array = b } ∷ record { group = pos 2; member = pos 4; array = a } ∷ []
-  }
+  names = array_decl a (pos 3) ∷ array_decl b (pos 3) ∷ counter_decl c ∷ [];
+  callbacks = [];
+  created = record { group = pos 2; start = pos 5; depth = pos 3 } ∷ [];
+  attached = record { group = pos 2; member = pos 1; array = b } ∷ record { group = pos 2; member = pos 4; array = a } ∷ [];
+}
 
 abbrev member_body : List Stmt
 member_body =
@@ -470,20 +496,20 @@ tells_apart = simp levels
 
 abbrev reading_facts : Facts
 reading_facts = record {
-    names = array_decl a (pos 1) ∷ counter_decl c ∷ [];
-    callbacks = record {
-        spot = here;
-        name = codes "n";
-        body =
-            stmt.Let here a (expr.Add (expr.Name a) (expr.Add (expr.Mul (expr.Name c) (n (pos 1000)))
-                (expr.Add (expr.Mul expr.Rank (n (pos 100))) (expr.Add (expr.Mul expr.Size (n (pos 10))) (expr.Latest (pos 0))))))
-            ∷ print a
-            ∷ print c
-            ∷ []
-      } ∷ [];
-    created = record { group = pos 0; start = pos 5; depth = pos 0 } ∷ [];
-    attached = []
-  }
+  names = array_decl a (pos 1) ∷ counter_decl c ∷ [];
+  callbacks = record {
+    spot = here;
+    name = codes "n";
+    body =
+        stmt.Let here a (expr.Add (expr.Name a) (expr.Add (expr.Mul (expr.Name c) (n (pos 1000)))
+        (expr.Add (expr.Mul expr.Rank (n (pos 100))) (expr.Add (expr.Mul expr.Size (n (pos 10))) (expr.Latest (pos 0))))))
+        ∷ print a
+        ∷ print c
+        ∷ [];
+  } ∷ [];
+  created = record { group = pos 0; start = pos 5; depth = pos 0 } ∷ [];
+  attached = [];
+}
 
 abbrev reading_before : State
 reading_before = record { counters = pos 4 ∷ []; arrays = (pos 1 ∷ []) ∷ []; callbacks = codes "n" ∷ [] }
@@ -505,10 +531,26 @@ nested : shown (stmt.Loop here c (n (pos 0)) (pos 1) (stmt.Loop here d (expr.Nam
 nested = simp levels
 
 set_by_reply : outputs (walk_of plain_facts (stmt.Loop here c (n (pos 0)) (pos 2) (stmt.Reduce here op.Sum c a ∷ print c ∷ []) ∷ print c ∷ []) alone (blank plain_facts))
-        (given (Number (pos 9)) ∷ given (Number (pos 9)) ∷ given (Number (pos 9)) ∷ [])
+    (given (Number (pos 9)) ∷ given (Number (pos 9)) ∷ given (Number (pos 9)) ∷ [])
     ≡ Ask (wanted.Reduce op.Sum (pos 0)) ∷ prints c (pos 9 ∷ []) ∷ Ask (wanted.Reduce op.Sum (pos 0)) ∷ prints c (pos 9 ∷ []) ∷ Ask (wanted.Reduce op.Sum (pos 0)) ∷ prints c (pos 9 ∷ []) ∷ prints c (pos 9 ∷ []) ∷ []
 set_by_reply = simp levels
 
 -- a callback that a body registers twice is registered once
 registers_once : stop_of (walk_of group_facts (stmt.Register here note ∷ stmt.Register here note ∷ []) alone (blank group_facts)) [] ≡ AtEnd (record { counters = []; arrays = (pos 0 ∷ pos 0 ∷ []) ∷ []; callbacks = note ∷ [] })
 registers_once = simp levels
+
+-- elements at a sum, and a number at a shift, set nothing
+wrong_kinds : stop_of (pair_walk 1) (given (Elements (pos 5 ∷ pos 5 ∷ [])) ∷ given (Number (pos 4)) ∷ [])
+    ≡ AtEnd (record { counters = pos 0 ∷ []; arrays = (pos 2 ∷ pos 2 ∷ []) ∷ (pos 0 ∷ pos 0 ∷ []) ∷ []; callbacks = [] })
+wrong_kinds = simp levels
+
+-- two pairs, and two blocks of two
+abbrev six : List ℤ
+six = pos 10 ∷ pos 11 ∷ pos 12 ∷ pos 13 ∷ pos 14 ∷ pos 15 ∷ []
+
+two_pairs : picked_from (picked.Ranges ((pos 4, pos 5) ∷ (pos 1, pos 2) ∷ [])) 0 six ≡ (1, pos 11) ∷ (2, pos 12) ∷ (4, pos 14) ∷ (5, pos 15) ∷ []
+two_pairs = refl
+
+two_blocks : picked_from (picked.Strided (pos 2) (pos 0) (pos 1) (pos 3)) 0 six ≡ (0, pos 10) ∷ (1, pos 11) ∷ (3, pos 13) ∷ (4, pos 14) ∷ []
+unfolding blocks_of
+two_blocks = refl

@@ -15,10 +15,11 @@ pub enum At {
 #[derive(Clone, Copy, Debug)]
 pub struct View {
     pub role: Role,
-    /// Its place, from 0.
+    /// Its place, from 0, below the size.
     pub rank: u8,
-    /// How many places the communicator has.
+    /// How many places the communicator has, at least 1.
     pub size: u8,
-    /// The newest retained stamp of each group, -1 where there is none.
+    /// The newest retained stamp of each of the groups 0 to 7, -1 where the group isn't created in
+    /// this epoch or retains none.
     pub latest: [i64; 8],
 }

@@ -24,14 +24,10 @@ pub fn more_replies_go_on()
 /// stamps that its replies set. Replies inside `when` leave the newest stamps as they are.
 pub fn all_ranks_have_one_plan()
     ensures begins { (job : Job) → KeepsByParts job → (view : View) (state : State) → Keeps (job_walk job view state) (job_plan job (shared_of view state)) view.latest }
-    ensures past {
-        (job : Job) → KeepsByParts job → (view : View) (state : State) (replies : List Reply) → StampsStay (job_walk job view state) view.latest replies
-        → met (job_walk job view state) replies ≡ plan_met (job_plan job (shared_of view state)) (effects (job_walk job view state) replies)
-    }
-    ensures goes_on {
-        (job : Job) → KeepsByParts job → (view : View) (state : State) (replies : List Reply) → StampsStay (job_walk job view state) view.latest replies
-        → Keeps (rest_after (job_walk job view state) replies) (plan_after (job_plan job (shared_of view state)) (effects (job_walk job view state) replies)) (latest_after (job_walk job view state) view.latest replies)
-    }
+    ensures past { (job : Job) → KeepsByParts job → (view : View) (state : State) (replies : List Reply) → StampsStay (job_walk job view state) view.latest replies
+        → met (job_walk job view state) replies ≡ plan_met (job_plan job (shared_of view state)) (effects (job_walk job view state) replies) }
+    ensures goes_on { (job : Job) → KeepsByParts job → (view : View) (state : State) (replies : List Reply) → StampsStay (job_walk job view state) view.latest replies
+        → Keeps (rest_after (job_walk job view state) replies) (plan_after (job_plan job (shared_of view state)) (effects (job_walk job view state) replies)) (latest_after (job_walk job view state) view.latest replies) }
 {}
 
 /// Two ranks of an accepted job are in step, whatever their roles, places and arrays are, if they
@@ -41,17 +37,11 @@ pub fn all_ranks_have_one_plan()
 /// stamps, and with the same counters. They see the same newest stamps, and come next to the same
 /// statement, or to the end, where neither waits inside a `when`.
 pub fn ranks_are_in_step()
-    ensures past {
-        (job : Job) → KeepsByParts job → (one other : View) (state beside : State) (replies others : List Reply) → AreGivenAlike job one other state beside replies others
-        → met (job_walk job one state) replies ≡ met (job_walk job other beside) others
-    }
-    ensures stamps {
-        (job : Job) → KeepsByParts job → (one other : View) (state beside : State) (replies others : List Reply) → AreGivenAlike job one other state beside replies others
-        → latest_after (job_walk job one state) one.latest replies ≡ latest_after (job_walk job other beside) other.latest others
-    }
-    ensures next {
-        (job : Job) → KeepsByParts job → (one other : View) (state beside : State) (replies others : List Reply) → AreGivenAlike job one other state beside replies others
+    ensures past { (job : Job) → KeepsByParts job → (one other : View) (state beside : State) (replies others : List Reply) → AreGivenAlike job one other state beside replies others
+        → met (job_walk job one state) replies ≡ met (job_walk job other beside) others }
+    ensures stamps { (job : Job) → KeepsByParts job → (one other : View) (state beside : State) (replies others : List Reply) → AreGivenAlike job one other state beside replies others
+        → latest_after (job_walk job one state) one.latest replies ≡ latest_after (job_walk job other beside) other.latest others }
+    ensures next { (job : Job) → KeepsByParts job → (one other : View) (state beside : State) (replies others : List Reply) → AreGivenAlike job one other state beside replies others
         → is_outside (next_of (rest_after (job_walk job one state) replies)) ≡ true → is_outside (next_of (rest_after (job_walk job other beside) others)) ≡ true
-        → next_of (rest_after (job_walk job one state) replies) ≡ next_of (rest_after (job_walk job other beside) others)
-    }
+        → next_of (rest_after (job_walk job one state) replies) ≡ next_of (rest_after (job_walk job other beside) others) }
 {}
