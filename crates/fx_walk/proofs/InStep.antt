@@ -75,9 +75,9 @@ not_for_all : (b c : Bool) → b ≡ true → (not (b && true) && c) ≡ true �
 not_for_all true c h n = absurd cc
 not_for_all false c h n = absurd cc
 
-either : (b : Bool) (x y : Walk) (u : Plan) (latest : List ℤ) → Keeps x u latest → Keeps y u latest → Keeps (if b then x else y) u latest
-either true x y u latest one other = one
-either false x y u latest one other = other
+either_way : (b : Bool) (x y : Walk) (u : Plan) (latest : List ℤ) → Keeps x u latest → Keeps y u latest → Keeps (if b then x else y) u latest
+either_way true x y u latest one other = one
+either_way false x y u latest one other = other
 
 quiet_list : (f : Facts) (ts : List ((s : Stmt) × IsQuiet f s)) (p : Surroundings) → p.in_when ≡ true → KeepRules (lines_at (map (stmt_lines f) (map (λ t. t.0) ts)) p)
     → (k : Onward) (u : Plan) (view : View) (cs : List ℤ) → Rests k u view cs → Rests (in_turn (map (walk f) (map (λ t. t.0) ts)) true k) u view cs
@@ -93,12 +93,12 @@ quiet_level f (Stmt-F.Set spot counter value) = quiet_rolled f (Stmt-F.Set spot 
 quiet_level f (Stmt-F.Print spot name) = quiet_rolled f (Stmt-F.Print spot name) (λ p inside keep k u view cs rests v e. rests v e)
 quiet_level f (Stmt-F.Register spot name) = quiet_rolled f (Stmt-F.Register spot name) (λ p inside keep k u view cs rests v e. rests _ e)
 quiet_level f (Stmt-F.RoleOnly spot role ts) = quiet_rolled f (Stmt-F.RoleOnly spot role (map (λ t. t.0) ts))
-    (λ p inside keep k u view cs rests v e. either (is_same_role role view.role) _ _ u view.latest (quiet_list f ts (inside_when p) refl keep.1 k u view cs rests v e) (rests v e))
+    (λ p inside keep k u view cs rests v e. either_way (is_same_role role view.role) _ _ u view.latest (quiet_list f ts (inside_when p) refl keep.1 k u view cs rests v e) (rests v e))
 quiet_level f (Stmt-F.Branch spot test left right ts None) = quiet_rolled f (Stmt-F.Branch spot test left right (map (λ t. t.0) ts) None)
-    (λ p inside keep k u view cs rests v e. either (holds test (value_of f left (sight view v)) (value_of f right (sight view v))) (in_turn (map (walk f) (map (λ t. t.0) ts)) true k view v) (k view v) u view.latest
+    (λ p inside keep k u view cs rests v e. either_way (holds test (value_of f left (sight view v)) (value_of f right (sight view v))) (in_turn (map (walk f) (map (λ t. t.0) ts)) true k view v) (k view v) u view.latest
     (quiet_list f ts (inside_if p) inside (all_front KeepsRules _ [] keep.1) k u view cs rests v e) (rests v e))
 quiet_level f (Stmt-F.Branch spot test left right ts (Some us)) = quiet_rolled f (Stmt-F.Branch spot test left right (map (λ t. t.0) ts) (Some (map (λ t. t.0) us)))
-    (λ p inside keep k u view cs rests v e. either (holds test (value_of f left (sight view v)) (value_of f right (sight view v))) (in_turn (map (walk f) (map (λ t. t.0) ts)) true k view v) (in_turn (map (walk f) (map (λ t. t.0) us)) true k view v) u view.latest
+    (λ p inside keep k u view cs rests v e. either_way (holds test (value_of f left (sight view v)) (value_of f right (sight view v))) (in_turn (map (walk f) (map (λ t. t.0) ts)) true k view v) (in_turn (map (walk f) (map (λ t. t.0) us)) true k view v) u view.latest
     (quiet_list f ts (inside_if p) inside (all_front KeepsRules _ _ keep.1) k u view cs rests v e)
     (quiet_list f us (inside_if p) inside (all_behind KeepsRules _ _ keep.1) k u view cs rests v e))
 quiet_level f (Stmt-F.Loop spot counter first last ts) = quiet_rolled f (Stmt-F.Loop spot counter first last (map (λ t. t.0) ts)) (λ p inside keep k u view cs rests v e. absurd (not_true p.in_when inside (and_parts (not p.in_when) (expr_uniform f first) keep.0.uniform).0))
@@ -184,7 +184,7 @@ planned_level f (Stmt-F.Set spot counter value) = planned_rolled f (Stmt-F.Set s
 planned_level f (Stmt-F.Print spot name) = planned_rolled f (Stmt-F.Print spot name) (λ p inside keep k pk alike view state. alike view state)
 planned_level f (Stmt-F.Register spot name) = planned_rolled f (Stmt-F.Register spot name) (λ p inside keep k pk alike view state. alike view _)
 planned_level f (Stmt-F.RoleOnly spot role ts) = planned_rolled f (Stmt-F.RoleOnly spot role (map (λ t. t.0) ts))
-    (λ p inside keep k pk alike view state. either (is_same_role role view.role) _ _ (pk (shared_of view state)) view.latest
+    (λ p inside keep k pk alike view state. either_way (is_same_role role view.role) _ _ (pk (shared_of view state)) view.latest
     (quiets f (map (λ t. t.0) ts) (inside_when p) refl keep.1 k (pk (shared_of view state)) view state.counters
     (λ x e. subst (λ (cs : List ℤ). Keeps (k view x) (pk (record (shared_of view state) { counters = cs })) view.latest) e (alike view x)) state refl) (alike view state))
 planned_level f (Stmt-F.Branch spot test left right ts None) = planned_rolled f (Stmt-F.Branch spot test left right (map (λ t. t.0) ts) None)

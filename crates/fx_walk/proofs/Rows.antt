@@ -62,8 +62,8 @@ prints name values = Print (record { name = name; values = values })
 abbrev print : List ℕ → Stmt
 print name = stmt.Print here name
 
-abbrev set : List ℕ → Expr → Stmt
-set name value = stmt.Set here name value
+abbrev set_to : List ℕ → Expr → Stmt
+set_to name value = stmt.Set here name value
 
 -- a reply that leaves the stamps as they are where no group has any
 abbrev given : Given → Reply
@@ -221,11 +221,11 @@ abbrev shown : List Stmt → List Output
 shown statements = outputs (walk_of counters_alone statements alone (blank counters_alone)) []
 
 -- set inside its own loop, a counter has the turn's value again at the next turn, and is left as the last turn set it
-set_inside : shown (stmt.Loop here c (n (pos 0)) (pos 2) (print c ∷ set c (n (pos 7)) ∷ []) ∷ print c ∷ []) ≡ prints c (pos 0 ∷ []) ∷ prints c (pos 1 ∷ []) ∷ prints c (pos 2 ∷ []) ∷ prints c (pos 7 ∷ []) ∷ []
+set_inside : shown (stmt.Loop here c (n (pos 0)) (pos 2) (print c ∷ set_to c (n (pos 7)) ∷ []) ∷ print c ∷ []) ≡ prints c (pos 0 ∷ []) ∷ prints c (pos 1 ∷ []) ∷ prints c (pos 2 ∷ []) ∷ prints c (pos 7 ∷ []) ∷ []
 set_inside = simp levels
 
 -- the first value is computed once: what a turn makes of it changes nothing
-first_once : shown (set c (n (pos 1)) ∷ stmt.Loop here c (expr.Name c) (pos 3) (set c (n (pos 9)) ∷ print c ∷ []) ∷ []) ≡ prints c (pos 9 ∷ []) ∷ prints c (pos 9 ∷ []) ∷ prints c (pos 9 ∷ []) ∷ []
+first_once : shown (set_to c (n (pos 1)) ∷ stmt.Loop here c (expr.Name c) (pos 3) (set_to c (n (pos 9)) ∷ print c ∷ []) ∷ []) ≡ prints c (pos 9 ∷ []) ∷ prints c (pos 9 ∷ []) ∷ prints c (pos 9 ∷ []) ∷ []
 first_once = simp levels
 
 -- a negative first value is 0
@@ -233,7 +233,7 @@ from_zero : shown (stmt.Loop here c (expr.Sub (n (pos 0)) (n (pos 2))) (pos 1) (
 from_zero = simp levels
 
 -- a loop without a turn leaves its counter
-without_turns : shown (set c (n (pos 5)) ∷ stmt.Loop here c (n (pos 3)) (pos 2) (print c ∷ []) ∷ print c ∷ []) ≡ prints c (pos 5 ∷ []) ∷ []
+without_turns : shown (set_to c (n (pos 5)) ∷ stmt.Loop here c (n (pos 3)) (pos 2) (print c ∷ []) ∷ print c ∷ []) ≡ prints c (pos 5 ∷ []) ∷ []
 without_turns = simp levels
 
 -- ---- branches
@@ -241,14 +241,14 @@ without_turns = simp levels
 abbrev branch : Stmt
 branch = stmt.Branch here test.Le (n (pos 3)) (n (pos 3)) (print c ∷ []) None
 
-abbrev either : Stmt
-either = stmt.Branch here test.Lt (n (pos 3)) (n (pos 3)) (set c (n (pos 1)) ∷ []) (Some (set c (n (pos 2)) ∷ []))
+abbrev either_way : Stmt
+either_way = stmt.Branch here test.Lt (n (pos 3)) (n (pos 3)) (set_to c (n (pos 1)) ∷ []) (Some (set_to c (n (pos 2)) ∷ []))
 
-both_ways : shown (branch ∷ either ∷ print c ∷ []) ≡ prints c (pos 0 ∷ []) ∷ prints c (pos 2 ∷ []) ∷ []
+both_ways : shown (branch ∷ either_way ∷ print c ∷ []) ≡ prints c (pos 0 ∷ []) ∷ prints c (pos 2 ∷ []) ∷ []
 both_ways = simp levels
 
 -- from the end of the first list over `else` there is no action
-over_else : walk_of counters_alone (stmt.Branch here test.Eq (n (pos 3)) (n (pos 3)) (print c ∷ []) (Some (set c (n (pos 2)) ∷ [])) ∷ print c ∷ []) alone (blank counters_alone)
+over_else : walk_of counters_alone (stmt.Branch here test.Eq (n (pos 3)) (n (pos 3)) (print c ∷ []) (Some (set_to c (n (pos 2)) ∷ [])) ∷ print c ∷ []) alone (blank counters_alone)
     ≡ Passes (Prints (record { name = c; values = pos 0 ∷ [] }) (Prints (record { name = c; values = pos 0 ∷ [] }) (Ends (blank counters_alone))))
 over_else = simp levels
 
@@ -261,7 +261,7 @@ most = pos 9223372036854775807
 abbrev least : ℤ
 least = negsuc 9223372036854775807
 
-wraps : shown (set c (expr.Add (n most) (n (pos 1))) ∷ print c ∷ set c (expr.Mul (n (pos 4294967296)) (n (pos 4294967296))) ∷ print c ∷ set c (expr.Sub (n least) (n (pos 1))) ∷ print c ∷ [])
+wraps : shown (set_to c (expr.Add (n most) (n (pos 1))) ∷ print c ∷ set_to c (expr.Mul (n (pos 4294967296)) (n (pos 4294967296))) ∷ print c ∷ set_to c (expr.Sub (n least) (n (pos 1))) ∷ print c ∷ [])
     ≡ prints c (least ∷ []) ∷ prints c (pos 0 ∷ []) ∷ prints c (most ∷ []) ∷ []
 wraps = simp levels
 
@@ -441,7 +441,7 @@ sight_body =
     ∷ stmt.Barrier here
     ∷ stmt.Reduce here op.Min c a
     ∷ stmt.Reduce here op.Max d a
-    ∷ set c (expr.Latest (pos 2))
+    ∷ set_to c (expr.Latest (pos 2))
     ∷ print c
     ∷ print d
     ∷ stmt.Drop here (pos 2) (expr.Sub (expr.Name c) (n (pos 1)))
@@ -475,11 +475,11 @@ sees_at_end = simp levels
 -- ---- tests, each with a digit of its own
 
 abbrev adds : ℤ → Stmt
-adds value = set d (expr.Add (expr.Name d) (n value))
+adds value = set_to d (expr.Add (expr.Name d) (n value))
 
 abbrev tests_body : List Stmt
 tests_body =
-    set c (n (pos 1))
+    set_to c (n (pos 1))
     ∷ stmt.Branch here test.Lt (expr.Name c) (n (pos 2)) (adds (pos 1) ∷ []) None
     ∷ stmt.Branch here test.Lt (n (pos 2)) (expr.Name c) (adds (pos 10) ∷ []) None
     ∷ stmt.Branch here test.Lt (expr.Sub (n (pos 0)) (n (pos 1))) (n (pos 0)) (adds (pos 100) ∷ []) None
