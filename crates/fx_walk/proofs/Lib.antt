@@ -1,0 +1,6 @@
+mod Along
+mod InStep
+mod Rows
+mod Shared
+mod Steps
+mod TwoRanks
