@@ -21,6 +21,3 @@ mod work;
 pub use accepted::Accepted;
 pub use check::check_job;
 pub use fault::{CheckJob, StaticFault};
-
-#[cfg(test)]
-mod tests;

@@ -1,5 +1,11 @@
-//! Worked rows of the whole program, as tests: the words and the source, and what is written.
+//! Worked rows, as tests: of the whole program, of the texts of jobs, and of the jobs that are accepted.
 #![tactic(auto)]
 
 #[cfg(test)]
-mod tests;
+mod acceptance;
+#[cfg(test)]
+mod calls;
+#[cfg(test)]
+mod texts;
+#[cfg(test)]
+mod written;

@@ -29,6 +29,3 @@ pub use job::{
 pub use print::print_job;
 pub use read::read_job;
 pub use refusal::{JobFault, ReadJob};
-
-#[cfg(test)]
-mod tests;

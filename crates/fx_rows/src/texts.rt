@@ -1,6 +1,9 @@
-use super::JobFault::{BadLine, BadNumber, LineTooLong, MissingPart, NotAscii, TrailingText};
-use super::*;
+ghost use Rattle.std.specs.Prelude.{◌<◌, length};
+
+use crate::written::text_of;
 use fx_base::{Bytes, Spot};
+use fx_script::JobFault::{BadLine, BadNumber, LineTooLong, MissingPart, NotAscii, TrailingText};
+use fx_script::{JobFault, ReadJob, print_job, read_job};
 use std::alloc::Global;
 use std::process::Abort;
 use std::test::Fail;
@@ -185,29 +188,10 @@ static REPEATED: [(&str, &str, u32, &str, Option<(JobFault, u32, u32)>); 7] = [
     (STORE, " 7 7", 17, BODY_END, Some((BadLine, 6, 82))),
 ];
 
-fn push_lines(text: &mut Bytes, table: &str) -> Result<(), Fail> {
-    for byte in table.as_bytes() {
-        text.push(if *byte == b'|' { b'\n' } else { *byte })?;
-    }
-    Ok(())
-}
-
 // What is answered to the text of these lines: nothing where a job is read.
-fn answer(
-    rt: &impl Abort,
-    alloc: Global,
-    before: &str,
-    lines: &str,
-    times: u32,
-    behind: &str,
-) -> Result<Option<(JobFault, Spot)>, Fail> {
-    let mut text = Bytes::new(alloc);
-    push_lines(&mut text, before)?;
-    for _ in 0..times {
-        push_lines(&mut text, lines)?;
-    }
-    push_lines(&mut text, behind)?;
-    assert!(rt; text.len() < 4096);
+fn answer(alloc: Global, text: &Bytes) -> Result<Option<(JobFault, Spot)>, Fail>
+    requires { length text.now < 4096 }
+{
     match read_job(alloc, text.as_slice()) {
         Ok(_) => Ok(None),
         Err(ReadJob::Refused(fault, spot)) => Ok(Some((fault, spot))),
@@ -215,25 +199,28 @@ fn answer(
     }
 }
 
-// What is printed of the job in a text.
-#[tactic(auto, using(crate::proofs::CanonAlone::spelled_has_text))]
-fn printed(rt: &impl Abort, alloc: Global, table: &str) -> Result<Bytes, Fail> {
-    let mut text = Bytes::new(alloc);
-    push_lines(&mut text, table)?;
-    assert!(rt; text.len() < 4096);
-    match read_job(alloc, text.as_slice()) {
-        Ok(job) => Ok(print_job(alloc, &job)?),
-        Err(_) => Err(Fail::from("the text spells a job")),
+fn repeated(alloc: Global, lines: &str, times: u32) -> Result<String, Fail> {
+    let mut all = String::new(alloc);
+    for _ in 0..times {
+        all.push_str(lines)?;
     }
+    Ok(all)
+}
+
+// What is printed of the job in a text.
+fn printed(alloc: Global, text: &Bytes) -> Result<Bytes, Fail>
+    requires { length text.now < 4096 }
+{
+    Ok(print_job(alloc, &read_job(alloc, text.as_slice())?)?)
 }
 
 #[test]
 fn a_job_of_every_kind_of_line_is_printed(rt: HostRuntime) -> Result<(), Fail> {
     for (table, canonical) in [(WHOLE, WHOLE), (LOOSE, WHOLE), (NOTED, PLAIN)] {
-        let mut wanted = Bytes::new(rt.alloc());
-        push_lines(&mut wanted, canonical)?;
-        let text = printed(&rt, rt.alloc(), table)?;
-        assert_eq!(rt; text.as_slice(), wanted.as_slice(), "at {table}");
+        let text = text_of(&rt, rt.alloc(), &[table])?;
+        let wanted = text_of(&rt, rt.alloc(), &[canonical])?;
+        let written = printed(rt.alloc(), &text)?;
+        assert_eq!(rt; written.as_slice(), wanted.as_slice(), "at {table}");
     }
     Ok(())
 }
@@ -241,7 +228,8 @@ fn a_job_of_every_kind_of_line_is_printed(rt: HostRuntime) -> Result<(), Fail> {
 #[test]
 fn texts_are_refused(rt: HostRuntime) -> Result<(), Fail> {
     for (before, lines, behind, fault, line, column) in REFUSED.iter().copied() {
-        let answer = answer(&rt, rt.alloc(), before, lines, 1, behind)?;
+        let text = text_of(&rt, rt.alloc(), &[before, lines, behind])?;
+        let answer = answer(rt.alloc(), &text)?;
         assert_eq!(rt; answer, Some((fault, Spot { line, column })), "at {lines}");
     }
     Ok(())
@@ -250,7 +238,9 @@ fn texts_are_refused(rt: HostRuntime) -> Result<(), Fail> {
 #[test]
 fn limits_are_kept(rt: HostRuntime) -> Result<(), Fail> {
     for (before, lines, times, behind, told) in REPEATED.iter().copied() {
-        let answer = answer(&rt, rt.alloc(), before, lines, times, behind)?;
+        let repeated = repeated(rt.alloc(), lines, times)?;
+        let text = text_of(&rt, rt.alloc(), &[before, repeated.as_str(), behind])?;
+        let answer = answer(rt.alloc(), &text)?;
         let expected = match told {
             Some((fault, line, column)) => Some((fault, Spot { line, column })),
             None => None,

@@ -1,3 +1,4 @@
+use crate::written::bytes_of;
 use fx_base::Bytes;
 use fx_cli::{code, fenix_in_memory};
 use std::alloc::Global;
@@ -109,13 +110,7 @@ const CHECK_ROWS: [Row; 6] = [
     },
 ];
 
-fn bytes_of(alloc: Global, table: &str) -> Result<Bytes, Fail> {
-    let mut bytes = Bytes::new(alloc);
-    for byte in table.as_bytes() {
-        bytes.push(if *byte == b'|' { b'\n' } else { *byte })?;
-    }
-    Ok(bytes)
-}
+const NO_EVENTS_YET: &str = "fenix 1|ranks 1|spares 0|separation 1|begin|end|schedule|";
 
 fn words_of(alloc: Global, line: &str) -> Result<Vec<String>, Fail> {
     let mut words = Vec::new(alloc);
@@ -128,7 +123,7 @@ fn words_of(alloc: Global, line: &str) -> Result<Vec<String>, Fail> {
 // The code and all that is written.
 fn answer_to(alloc: Global, row: &Row) -> Result<(u8, Bytes), Fail> {
     let words = words_of(alloc, row.words)?;
-    let source = bytes_of(alloc, row.source)?;
+    let source = bytes_of(alloc, &[row.source])?;
     let (status, sink) = fenix_in_memory(alloc, words.as_slice(), source);
     Ok((code(&status), sink.written().copy()?))
 }
@@ -137,7 +132,7 @@ fn answer_to(alloc: Global, row: &Row) -> Result<(u8, Bytes), Fail> {
 fn jobs_are_run(rt: HostRuntime) -> Result<(), Fail> {
     for row in RUN_ROWS.iter() {
         let (code, written) = answer_to(rt.alloc(), row)?;
-        let due = bytes_of(rt.alloc(), row.written)?;
+        let due = bytes_of(rt.alloc(), &[row.written])?;
         assert_eq!(rt; code, row.code, "at {}", row.shows);
         assert_eq!(rt; written.as_slice(), due.as_slice(), "at {}", row.shows);
     }
@@ -148,7 +143,7 @@ fn jobs_are_run(rt: HostRuntime) -> Result<(), Fail> {
 fn jobs_are_checked(rt: HostRuntime) -> Result<(), Fail> {
     for row in CHECK_ROWS.iter() {
         let (code, written) = answer_to(rt.alloc(), row)?;
-        let due = bytes_of(rt.alloc(), row.written)?;
+        let due = bytes_of(rt.alloc(), &[row.written])?;
         assert_eq!(rt; code, row.code, "at {}", row.shows);
         assert_eq!(rt; written.as_slice(), due.as_slice(), "at {}", row.shows);
     }
@@ -163,16 +158,13 @@ fn a_schedule_has_at_most_100_000_events(rt: HostRuntime) -> Result<(), Fail> {
         (100_000, None),
         (100_001, Some("fenix: bad job: OutOfRange at 100008:1|")),
     ] {
-        let mut source = bytes_of(
-            alloc,
-            "fenix 1|ranks 1|spares 0|separation 1|begin|end|schedule|",
-        )?;
+        let mut source = bytes_of(alloc, &[NO_EVENTS_YET])?;
         for _ in 0..events {
             source.append(b"step 0\n")?;
         }
         source.append(b"stop\n")?;
         let due = match due {
-            Some(line) => bytes_of(alloc, line)?,
+            Some(line) => bytes_of(alloc, &[line])?,
             None => source.copy()?,
         };
         let (_, sink) = fenix_in_memory(alloc, words.as_slice(), source);

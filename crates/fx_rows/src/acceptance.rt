@@ -1,10 +1,10 @@
-ghost use Rattle.std.specs.Prelude.{◌<◌, length, IfOk};
+ghost use Rattle.std.specs.Prelude.{◌<◌, length};
 
-use super::*;
+use crate::written::text_of;
 use fx_base::{Bytes, Spot};
+use fx_check::{CheckJob, check_job};
 use fx_script::read_job;
 use std::alloc::Global;
-use std::process::Abort;
 use std::test::Fail;
 
 // What is expected comes from a program written apart from this one. In a row a bar ends a line of
@@ -360,30 +360,12 @@ fn jobs_are_answered_as_in_the_table(rt: HostRuntime) -> Result<(), Fail> {
             let Some((piece, expected)) = row.split_once(" = ") else {
                 return Err(Fail::from("a row has an answer"));
             };
-            let text = job_text(&rt, rt.alloc(), [before, piece, behind])?;
+            let text = text_of(&rt, rt.alloc(), &[before, piece, behind])?;
             let answer = answer(rt.alloc(), &text)?;
             assert_eq!(rt; answer.as_str(), expected, "at {piece}");
         }
     }
     Ok(())
-}
-
-// The text of a job in pieces.
-fn job_text(rt: &impl Abort, alloc: Global, pieces: [&str; 3]) -> Result<Bytes, Fail>
-    ensures { IfOk result (λ text. length text < 4096) }
-{
-    let mut text = Bytes::new(alloc);
-    for piece in pieces {
-        for byte in piece.as_bytes() {
-            match *byte {
-                b'\n' => (),
-                b'|' => text.push(b'\n')?,
-                byte => text.push(byte)?,
-            }
-        }
-    }
-    assert!(rt; text.len() < 4096);
-    Ok(text)
 }
 
 // What is said of the job of a text.
@@ -401,11 +383,8 @@ fn answer(alloc: Global, text: &Bytes) -> Result<String, Fail>
 
 #[test]
 fn an_accepted_job_knows_its_bound(rt: HostRuntime) -> Result<(), Fail> {
-    let text = job_text(
-        &rt,
-        rt.alloc(),
-        [IN_BODY, "for c 0 9|barrier|endfor", OUT_OF_BODY],
-    )?;
+    let pieces = [IN_BODY, "for c 0 9|barrier|endfor", OUT_OF_BODY];
+    let text = text_of(&rt, rt.alloc(), &pieces)?;
     let accepted = check_job(rt.alloc(), read_job(rt.alloc(), text.as_slice())?)?;
     assert_eq!(rt; accepted.job().ranks, 3);
     assert_eq!(rt; accepted.procs(), 4);
