@@ -1,5 +1,6 @@
 pub mod LineSteps
 pub mod FieldLemmas
+pub mod KeywordLemmas
 pub mod ExprLemmas
 pub mod PickedLemmas
 pub mod SimpleLemmas

@@ -1,5 +1,5 @@
 -- The first words of lines.
-use Rattle.std.specs.Prelude.{◌≡◌, ℕ, List, [], ◌∷◌, Option, Some, None, codes, refl}
+use Rattle.std.specs.Prelude.{◌≡◌, ℕ, List, [], ◌∷◌, ◌==◌, Bool, get_or, Option, Some, None, codes, refl}
 use Rattle.std.specs.List.{find}
 use Rattle.std.specs.Str.{bytes_eq}
 use Rattle.fx_script.specs.declared.keyword.Keyword.{Keyword}
@@ -121,9 +121,17 @@ keywords =
     ∷ k.Part part.Stop
     ∷ []
 
+-- whether a keyword's word begins with this letter
+abbrev pub begins_with : ℕ → Keyword → Bool
+begins_with letter keyword = get_or (keyword_text keyword) 0 0 == letter
+
+-- whether a word stands for this keyword
+abbrev pub stands_for : List ℕ → Keyword → Bool
+stands_for word keyword = bytes_eq word (keyword_text keyword)
+
 -- the keyword that a word stands for
 abbrev pub keyword_of : List ℕ → Option Keyword
-keyword_of word = find (λ keyword. bytes_eq word (keyword_text keyword)) keywords
+keyword_of word = find (stands_for word) keywords
 
 stop_is_one : keyword_of (codes "stop") ≡ Some (k.Part part.Stop)
 stop_is_one = refl

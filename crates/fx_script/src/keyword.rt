@@ -1,6 +1,7 @@
 ghost use Rattle.std.specs.Prelude.{◌≡◌};
+ghost use Rattle.std.specs.List.{filter, find};
 ghost use Rattle.std.specs.Str.{bytes_eq};
-ghost use Rattle.fx_script.specs.Keywords.{part_text, edge_text, simple_text, event_text, keyword_text, keyword_of};
+ghost use Rattle.fx_script.specs.Keywords.{part_text, edge_text, simple_text, event_text, keyword_text, keywords, begins_with, stands_for, keyword_of};
 
 /// The first word of a line, which says what kind of line it is.
 #[derive(Clone, Copy, Debug, PartialEq, Eq)]
@@ -72,51 +73,6 @@ pub enum EventWord {
     Notice,
     Run,
 }
-
-const ALL: [Keyword; 42] = [
-    Keyword::Simple(SimpleWord::Print),
-    Keyword::Simple(SimpleWord::Let),
-    Keyword::Simple(SimpleWord::Set),
-    Keyword::Simple(SimpleWord::Register),
-    Keyword::Simple(SimpleWord::Barrier),
-    Keyword::Simple(SimpleWord::Sum),
-    Keyword::Simple(SimpleWord::Min),
-    Keyword::Simple(SimpleWord::Max),
-    Keyword::Simple(SimpleWord::Agree),
-    Keyword::Simple(SimpleWord::Shift),
-    Keyword::Simple(SimpleWord::Group),
-    Keyword::Simple(SimpleWord::Member),
-    Keyword::Simple(SimpleWord::Store),
-    Keyword::Simple(SimpleWord::Commit),
-    Keyword::Simple(SimpleWord::CommitBarrier),
-    Keyword::Simple(SimpleWord::Restore),
-    Keyword::Simple(SimpleWord::Drop),
-    Keyword::Edge(EdgeWord::When),
-    Keyword::Edge(EdgeWord::EndWhen),
-    Keyword::Edge(EdgeWord::If),
-    Keyword::Edge(EdgeWord::Else),
-    Keyword::Edge(EdgeWord::EndIf),
-    Keyword::Edge(EdgeWord::For),
-    Keyword::Edge(EdgeWord::EndFor),
-    Keyword::Event(EventWord::Step),
-    Keyword::Event(EventWord::Rest),
-    Keyword::Event(EventWord::Deliver),
-    Keyword::Event(EventWord::Kill),
-    Keyword::Event(EventWord::Notice),
-    Keyword::Event(EventWord::Run),
-    Keyword::Part(PartWord::Fenix),
-    Keyword::Part(PartWord::Ranks),
-    Keyword::Part(PartWord::Spares),
-    Keyword::Part(PartWord::Separation),
-    Keyword::Part(PartWord::Array),
-    Keyword::Part(PartWord::Counter),
-    Keyword::Part(PartWord::Callback),
-    Keyword::Part(PartWord::EndCallback),
-    Keyword::Part(PartWord::Begin),
-    Keyword::Part(PartWord::End),
-    Keyword::Part(PartWord::Schedule),
-    Keyword::Part(PartWord::Stop),
-];
 
 /// The word that stands for a keyword.
 pub fn keyword_text(keyword: Keyword) -> &'static str
@@ -201,12 +157,102 @@ fn event_text(word: EventWord) -> &'static str
 }
 
 /// The keyword that a word stands for.
+#[tactic(auto, using(crate::proofs::KeywordLemmas::found_by_first))]
 pub fn keyword_of(word: &[u8]) -> Option<Keyword>
     ensures { result ≡ keyword_of word.now }
 {
-    ALL.iter()
+    match word {
+        [] => None,
+        [first, ..] => first_that_fits(word, beginning_with(*first)),
+    }
+}
+
+fn first_that_fits(word: &[u8], keywords: &[Keyword]) -> Option<Keyword>
+    ensures { result ≡ find (stands_for word.now) keywords.now }
+{
+    keywords
+        .iter()
         .copied()
-        .find(|keyword| is_text(word, keyword_text(*keyword)))
+        .find(|keyword| is_same(word, keyword_text(*keyword).as_bytes()))
+}
+
+// The keywords whose words begin with this letter. A look at these alone is much cheaper than one at all keywords.
+fn beginning_with(first: u8) -> &'static [Keyword]
+    ensures { result.now ≡ filter (begins_with first) keywords }
+{
+    match first {
+        b'a' => &[
+            Keyword::Simple(SimpleWord::Agree),
+            Keyword::Part(PartWord::Array),
+        ],
+        b'b' => &[
+            Keyword::Simple(SimpleWord::Barrier),
+            Keyword::Part(PartWord::Begin),
+        ],
+        b'c' => &[
+            Keyword::Simple(SimpleWord::Commit),
+            Keyword::Simple(SimpleWord::CommitBarrier),
+            Keyword::Part(PartWord::Counter),
+            Keyword::Part(PartWord::Callback),
+        ],
+        b'd' => &[
+            Keyword::Simple(SimpleWord::Drop),
+            Keyword::Event(EventWord::Deliver),
+        ],
+        b'e' => &[
+            Keyword::Edge(EdgeWord::EndWhen),
+            Keyword::Edge(EdgeWord::Else),
+            Keyword::Edge(EdgeWord::EndIf),
+            Keyword::Edge(EdgeWord::EndFor),
+            Keyword::Part(PartWord::EndCallback),
+            Keyword::Part(PartWord::End),
+        ],
+        b'f' => &[Keyword::Edge(EdgeWord::For), Keyword::Part(PartWord::Fenix)],
+        b'g' => &[Keyword::Simple(SimpleWord::Group)],
+        b'i' => &[Keyword::Edge(EdgeWord::If)],
+        b'k' => &[Keyword::Event(EventWord::Kill)],
+        b'l' => &[Keyword::Simple(SimpleWord::Let)],
+        b'm' => &[
+            Keyword::Simple(SimpleWord::Min),
+            Keyword::Simple(SimpleWord::Max),
+            Keyword::Simple(SimpleWord::Member),
+        ],
+        b'n' => &[Keyword::Event(EventWord::Notice)],
+        b'p' => &[Keyword::Simple(SimpleWord::Print)],
+        b'r' => &[
+            Keyword::Simple(SimpleWord::Register),
+            Keyword::Simple(SimpleWord::Restore),
+            Keyword::Event(EventWord::Rest),
+            Keyword::Event(EventWord::Run),
+            Keyword::Part(PartWord::Ranks),
+        ],
+        b's' => &[
+            Keyword::Simple(SimpleWord::Set),
+            Keyword::Simple(SimpleWord::Sum),
+            Keyword::Simple(SimpleWord::Shift),
+            Keyword::Simple(SimpleWord::Store),
+            Keyword::Event(EventWord::Step),
+            Keyword::Part(PartWord::Spares),
+            Keyword::Part(PartWord::Separation),
+            Keyword::Part(PartWord::Schedule),
+            Keyword::Part(PartWord::Stop),
+        ],
+        b'w' => &[Keyword::Edge(EdgeWord::When)],
+        _ => &[],
+    }
+}
+
+// Whether two words are the same. For words as short as keywords this is much cheaper than `==`.
+fn is_same(word: &[u8], other: &[u8]) -> bool
+    ensures { result ≡ bytes_eq word.now other.now }
+{
+    match word {
+        [] => other.is_empty(),
+        [byte, word @ ..] => match other {
+            [] => false,
+            [wanted, other @ ..] => *byte == *wanted && is_same(word, other),
+        },
+    }
 }
 
 /// Whether a word is this text.
