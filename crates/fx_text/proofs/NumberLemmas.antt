@@ -2,10 +2,15 @@
 use Rattle.std.proofs.Common.{◌≡◌, ℕ, zero, suc, ◌+◌, ◌-◌, ◌*◌, ◌^◌, ◌<◌, ◌≤◌, min, true, not, ◌&&◌, ◌||◌, eqb, leb, ltb, List, [], ◌∷◌, length, take, get_or, Result, Ok, Err, refl, sym, ap, subst, ◌∙◌, arith, inl, inr}
 use Rattle.std.specs.Prelude.{ℤ, pos, negsuc, neg_ℤ, IfOk}
 use Rattle.std.specs.Fmt.{decimal, signed_decimal}
+use Rattle.std.specs.Int.{FitsUnsignedBits}
+use lib.IntN.{nat_abs}
+use mir.Syntax.{w64}
+use mir.Val.{to_z, of_z, SFits}
 use Rattle.std.specs.List.{list_all}
 use Rattle.std.specs.Str.Parse.{digits_value}
 use Rattle.std.proofs.lemmas.Bool.{and_parts, and_from, cases_Bool, or_cases, or_right, not_from_false, eqb-true, eq-eqb, ne_eqb, leb-true, le-leb, ltb-true, lt-ltb}
 use Rattle.std.proofs.lemmas.Fmt.{decimal-digits_value, digits_decimal, digits_value-decimal, decimal_nonempty, decimal_digit, first_decimal}
+use Rattle.std.proofs.lemmas.Int.{to_z-of_z}
 use Rattle.std.proofs.lemmas.Int.Digits.{digits_value_more}
 use Rattle.std.proofs.lemmas.Str.{digit_value_digit}
 use Rattle.std.proofs.lemmas.Str.Parse.{IsDigitsTest, IsNumeralModel, numerals_by_value}
@@ -163,3 +168,13 @@ number_fits (b ∷ bs) z e = elim (cases_Bool (eqb b 45)) [
   | inl t ↦ let s : negative_in bs ≡ Ok z = rw t at e in negative_fits bs z s
   | inr f ↦ let s : natural_in (b ∷ bs) ≡ Ok z = rw f at e in natural_fits (b ∷ bs) z s
 ]
+
+-- a byte's number below 10 is written as one digit
+digit_of : (digit : ℕ) (z : ℤ) → digit < 10 → FitsUnsignedBits 8 z × (digit ≡ nat_abs z) → (48 + digit) ∷ [] ≡ signed_decimal z
+digit_of digit (pos n) small is = sym (ap decimal (sym is.1) ∙ decimal_digit digit small)
+digit_of digit (negsuc n) small is = absurd is.0
+
+-- the same of a number as it is handed to a call
+pub one_digit : (digit : ℕ) (z : ℤ) → digit < 10 → SFits w64 z → FitsUnsignedBits 8 (to_z w64 (of_z w64 z)) × (digit ≡ nat_abs (to_z w64 (of_z w64 z)))
+    → (48 + digit) ∷ [] ≡ signed_decimal z
+one_digit digit z small fits is = digit_of digit z small (subst (λ y. FitsUnsignedBits 8 y × (digit ≡ nat_abs y)) (to_z-of_z w64 z fits) is)

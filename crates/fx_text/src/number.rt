@@ -100,5 +100,8 @@ pub fn push_number(out: &mut Bytes, value: i64) -> Result<(), NoMemory>
     ensures ok { OnOk result (out.new ≡ out.old ++ signed_decimal value) }
     ensures no_memory { OnErr result (out.new ≡ out.old) }
 {
-    out.append(Buffer::new().format(value).as_bytes())
+    match u8::try_from(value) {
+        Ok(digit) if digit < 10 => out.push(b'0' + digit),
+        _ => out.append(Buffer::new().format(value).as_bytes()),
+    }
 }

@@ -65,3 +65,20 @@ fn lines_are_checked(rt: HostRuntime) {
     assert_eq!(rt; check_line(&[b'a'; 1024]), Ok(()));
     assert_eq!(rt; check_line(&[b'a'; 1025]), Err(LineFault::TooLong));
 }
+
+#[test]
+fn a_line_is_written(rt: HostRuntime) -> Result<(), Fail> {
+    let mut out = Bytes::new(rt.alloc());
+    out.append(b"set")?;
+    put_word(&mut out, b"c")?;
+    for number in [0, 9, 10, -1, -10, 255, i64::MAX, i64::MIN] {
+        put_number(&mut out, number)?;
+    }
+    put_numbers(&mut out, &[7, -7])?;
+    end_line(&mut out)?;
+    assert_eq!(rt;
+        out.as_slice(),
+        b"set c 0 9 10 -1 -10 255 9223372036854775807 -9223372036854775808 7 -7\n".as_slice()
+    );
+    Ok(())
+}
