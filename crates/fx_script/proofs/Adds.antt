@@ -24,7 +24,7 @@ use Rattle.fx_script.specs.declared.job.Stmt.TheOpen.{Stmt-F}
 use Rattle.fx_script.specs.declared.job.Stmt.TheVariants as stmt
 use Rattle.fx_script.specs.Exprs.{is_writable_expr}
 use Rattle.fx_script.specs.Moves.{part_moved, edge_moved}
-use Rattle.fx_script.specs.Names.{is_name}
+use Rattle.fx_text.specs.Names.{is_name}
 use Rattle.fx_script.specs.Spelling.{Entry, kept_at, anywhere, chained, stmt_entries, stmts_entries, callback_entries, event_words, event_entry, stmt_fits, stmts_fit, decl_fits, callback_fits, event_fits}
 use Rattle.fx_script.specs.Order.{part_stands, edge_stands, is_inside, is_scheduled}
 use Rattle.fx_script.proofs.HeadLemmas.{part_word_in, part_fits, edge_word_in, edge_fits}

@@ -48,7 +48,7 @@ use Rattle.fx_script.specs.Exprs.{is_writable_expr}
 use Rattle.fx_script.specs.Heads.{head_at}
 use Rattle.fx_script.specs.Keywords.{part_text, edge_text, simple_text, event_text, keyword_text, keyword_of}
 use Rattle.fx_script.specs.Moves.{empty_draft, empty_job, no_callback, part_moved, edge_moved, moved}
-use Rattle.fx_script.specs.Names.{is_name}
+use Rattle.fx_text.specs.Names.{is_name}
 use Rattle.fx_script.specs.Reading.{sound, head_placed, head_in, taken, run}
 use Rattle.fx_script.specs.SaidLines.{Met, met_in, spot_of, if_met, met_from, IsSound}
 use Rattle.fx_script.specs.Spelling.{Entry, kept_at, anywhere, chained, words_in, IsLine, AreLines, event_words, event_fits, stmt_entries, stmts_entries, opening_fits, stmt_fits_level, stmt_fits, stmts_fit, decl_entry, decl_fits, callback_entries, callback_fits, event_entry, heading, job_entries, IsWritable}

@@ -11,7 +11,8 @@ use Rattle.fx_script.specs.declared.job.Job.{Job}
 use Rattle.fx_script.specs.Comments.{is_comment}
 use Rattle.fx_script.specs.SaidLines.{Met, met_of, met_in, spot_of, if_met, met_from, IsSound}
 use Rattle.fx_script.specs.Spelling.{Entry, job_entries, bytes_of, IsLine, AreLines, IsWritable, Spells}
-use Rattle.fx_script.specs.Canonical.{spaced, line_of, text_of, canonical}
+use Rattle.fx_script.specs.Canonical.{line_of, text_of, canonical}
+use Rattle.fx_text.specs.Written.{spaced}
 use Rattle.fx_script.proofs.Placed.{spot_at, placed, placed_from}
 
 -- ---- words that a line can hold

@@ -10,7 +10,8 @@ use Rattle.fx_text.specs.Lines.{Line, lines_of}
 use Rattle.fx_text.specs.Words.{Word, words_from, words_of}
 use Rattle.fx_script.specs.declared.draft.Draft.{Draft}
 use Rattle.fx_script.specs.declared.refusal.Wrong.{Wrong}
-use Rattle.fx_script.specs.Canonical.{spaced, text_of}
+use Rattle.fx_script.specs.Canonical.{text_of}
+use Rattle.fx_text.specs.Written.{spaced}
 use Rattle.fx_script.specs.Moves.{empty_draft}
 use Rattle.fx_script.specs.Reading.{Refusal, sound, taken, line_taken, run, reading, job_in}
 use Rattle.fx_script.specs.Refused.{behind_ends, in_front_of, line_at, IsRefusedForWords, GoesOnAtLength}

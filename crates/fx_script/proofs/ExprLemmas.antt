@@ -26,7 +26,7 @@ use Rattle.fx_script.specs.declared.expr.Token.{Token}
 use Rattle.fx_script.specs.declared.expr.Token.TheVariants as token
 use Rattle.fx_script.specs.declared.refusal.Wrong.{Wrong}
 use Rattle.fx_script.specs.Left.{Left}
-use Rattle.fx_script.specs.Names.{is_name, is_letter, begins_with_letter, is_reserved, is_letter_or_digit}
+use Rattle.fx_text.specs.Names.{is_name, is_letter, begins_with_letter, is_reserved, is_letter_or_digit}
 use Rattle.fx_script.specs.Outcome.{◌>>=◌}
 use Rattle.fx_script.specs.Exprs.{sign_text, words_of_level, expr_words, writable_level, is_writable_expr, joined, is_meant_as_number, operand_in, token_in, settled, taken_token, stepped, goes_on, expr_run, expr_at}
 use Rattle.fx_script.specs.Fields.{misfit, number_in_word}

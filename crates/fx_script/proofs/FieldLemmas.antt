@@ -19,7 +19,7 @@ use Rattle.fx_script.specs.declared.job.Test.TheVariants as test
 use Rattle.fx_script.specs.declared.refusal.Wrong.{Wrong}
 use Rattle.fx_script.specs.Left.{Left}
 use Rattle.fx_script.specs.Outcome.{◌>>=◌}
-use Rattle.fx_script.specs.Names.{is_name}
+use Rattle.fx_text.specs.Names.{is_name}
 use Rattle.fx_script.specs.Fields.{misfit, fixed_at, name_at, number_or, number_in_word, number_at, role_at, test_at, pair_at, pairs_from, none_of, end_at}
 use Rattle.fx_script.specs.Spelling.{bytes_of, role_text, test_text, pair_fits, pairs_words}
 

@@ -13,7 +13,7 @@ use Rattle.fx_script.specs.declared.job.Stmt.TheFolds.{fold-roll-Stmt, map-Stmt,
 use Rattle.fx_text.specs.Lines.{lines_of}
 use Rattle.fx_script.specs.Canonical.{line_of, canonical, stmt_without_spots_level, stmt_without_spots, decl_without_spot, callback_without_spots, event_without_spot, without_spots, HasText, CanBeWritten}
 use Rattle.fx_script.specs.Moves.{nowhere}
-use Rattle.fx_script.specs.Names.{is_name}
+use Rattle.fx_text.specs.Names.{is_name}
 use Rattle.fx_script.specs.Spelling.{Entry, job_entries, opening_fits, stmt_fits_level, stmt_fits, stmts_fit, list_fits, decl_fits, callback_fits, event_fits, IsWritable}
 use Rattle.fx_script.proofs.CanonLines.{AreGoodLines, lines_good, text_sound, text_placed}
 use Rattle.fx_script.proofs.Respotted.{moved_to, without_spots_rolls, Way, list_way, stmt_way, decl_way, callback_way, event_way, said, job_says, blocks_fit, Respotted, job_respotted}

@@ -22,7 +22,7 @@ use Rattle.fx_script.specs.Exprs.{expr_words, is_writable_expr, expr_at}
 use Rattle.fx_script.specs.Fields.{fixed_at, name_at, number_at, role_at, test_at}
 use Rattle.fx_script.specs.Heads.{part_at, edge_at, event_at}
 use Rattle.fx_script.specs.Keywords.{event_text}
-use Rattle.fx_script.specs.Names.{is_name}
+use Rattle.fx_text.specs.Names.{is_name}
 use Rattle.fx_script.specs.Spelling.{role_text, test_text, event_words, event_fits}
 use Rattle.fx_script.proofs.FieldLemmas.{bind_ok, ok_is, texts, Behind, fixed_found, fixed_again, name_found, number_found, name_again, number_read_again, role_found, role_again, test_found, test_again}
 use Rattle.fx_script.proofs.ExprLemmas.{expr_found, expr_again}

@@ -23,7 +23,7 @@ use Rattle.fx_script.specs.declared.refusal.JobFault.TheVariants.{BadLine}
 use Rattle.fx_script.specs.declared.refusal.Wrong.{Wrong}
 use Rattle.fx_script.specs.Left.{Left}
 use Rattle.fx_script.specs.Outcome.{◌>>=◌}
-use Rattle.fx_script.specs.Names.{is_name}
+use Rattle.fx_text.specs.Names.{is_name}
 use Rattle.fx_script.specs.Exprs.{is_meant_as_number, operand_in, token_in, joined, settled, taken_token, stepped, goes_on, expr_run, expr_at}
 use Rattle.fx_script.specs.Fields.{misfit, due, fixed_in, fixed_at, name_in, name_at, number_or, number_in_word, number_at, role_in, role_at, test_in, test_at, pair_at, pairs_from}
 use Rattle.fx_script.specs.Spelling.{bytes_of}

@@ -8,7 +8,8 @@ use Rattle.fx_script.specs.declared.expr.Expr.TheVariants as expr
 use Rattle.fx_script.specs.declared.expr.Sign.{Sign}
 use Rattle.fx_script.specs.declared.expr.Sign.TheVariants as sign
 use Rattle.fx_script.specs.Exprs.{sign_text, expr_words, joined}
-use Rattle.fx_script.specs.Canonical.{spaced, line_of, entry_line, text_of}
+use Rattle.fx_script.specs.Canonical.{line_of, entry_line, text_of}
+use Rattle.fx_text.specs.Written.{spaced}
 use Rattle.fx_script.specs.Spelling.{Entry, chained}
 use Rattle.fx_script.proofs.Adds.{chained-append}
 use Rattle.fx_script.proofs.ExprLemmas.{joined_words}

@@ -17,7 +17,7 @@ use Rattle.fx_script.specs.declared.job.Stmt.TheViews.{roll-Stmt}
 use Rattle.fx_script.specs.declared.job.Stmt.TheFolds.{fold-roll-Stmt, map-Stmt, ind-Stmt}
 use Rattle.fx_script.specs.Canonical.{line_of, text_of, canonical, stmt_without_spots_level, stmt_without_spots, decl_without_spot, callback_without_spots, event_without_spot, without_spots}
 use Rattle.fx_script.specs.Moves.{nowhere}
-use Rattle.fx_script.specs.Names.{is_name}
+use Rattle.fx_text.specs.Names.{is_name}
 use Rattle.fx_script.specs.Spelling.{Entry, kept_at, anywhere, opening, opening_fits, chained, stmt_level, stmt_entries, stmts_entries, decl_entry, callback_entries, event_entry, heading, job_entries, list_fits, stmt_fits_level, stmt_fits, stmts_fit, decl_fits, callback_fits, event_fits, IsWritable}
 use Rattle.fx_script.proofs.Placed.{placed, placed_from}
 

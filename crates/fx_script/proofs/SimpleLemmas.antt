@@ -21,7 +21,7 @@ use Rattle.fx_script.specs.Outcome.{◌>>=◌}
 use Rattle.fx_script.specs.Exprs.{expr_words, is_writable_expr, expr_at}
 use Rattle.fx_script.specs.Fields.{name_at, number_at, picked_at}
 use Rattle.fx_script.specs.Keywords.{simple_text}
-use Rattle.fx_script.specs.Names.{is_name}
+use Rattle.fx_text.specs.Names.{is_name}
 use Rattle.fx_script.specs.Spelling.{Entry, kept_at, picked_words, picked_fits, stmt_level, stmt_entries, stmt_fits_level, stmt_fits}
 use Rattle.fx_script.specs.Statements.{simple_at}
 use Rattle.fx_script.proofs.FieldLemmas.{bind_ok, ok_is, texts, Behind, name_found, number_found, name_again, number_read_again}

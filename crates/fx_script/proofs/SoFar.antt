@@ -18,7 +18,7 @@ use Rattle.fx_script.specs.declared.job.Job.{Job}
 use Rattle.fx_script.specs.declared.job.Stmt.{Stmt}
 use Rattle.fx_script.specs.Exprs.{is_writable_expr}
 use Rattle.fx_script.specs.Keywords.{part_text, edge_text}
-use Rattle.fx_script.specs.Names.{is_name}
+use Rattle.fx_text.specs.Names.{is_name}
 use Rattle.fx_script.specs.Spelling.{Entry, kept_at, anywhere, chained, stmts_entries, decl_entry, callback_entries, event_entry, heading, job_entries, stmts_fit, decl_fits, callback_fits, event_fits}
 use Rattle.fx_script.proofs.HeadLemmas.{part_word_in, part_fields, edge_word_in, edge_fields}
 

@@ -30,7 +30,7 @@ use Rattle.fx_script.specs.declared.job.Stmt.TheFolds.{fold-roll-Stmt, map-Stmt,
 use Rattle.fx_script.specs.declared.job.Test.{Test}
 use Rattle.fx_script.specs.declared.job.Test.TheVariants as test
 use Rattle.fx_script.specs.Exprs.{words_of_level, expr_words, writable_level, is_writable_expr}
-use Rattle.fx_script.specs.Names.{is_letter, is_letter_or_digit, begins_with_letter, is_reserved, is_name}
+use Rattle.fx_text.specs.Names.{is_letter, is_letter_or_digit, begins_with_letter, is_reserved, is_name}
 use Rattle.fx_script.specs.Spelling.{Entry, kept_at, anywhere, test_text, pairs_words, picked_words, event_words, opening, chained, stmt_level, stmt_entries, stmts_entries, decl_entry, callback_entries, event_entry, heading, job_entries, pair_fits, picked_fits, opening_fits, stmt_fits_level, stmt_fits, stmts_fit, decl_fits, callback_fits, event_fits, IsWritable}
 use Rattle.fx_script.proofs.CanonLines.{is_word_byte, is_word, is_said}
 

@@ -12,13 +12,9 @@ use Rattle.fx_script.specs.declared.job.Stmt.TheOpen.{Stmt-F}
 use Rattle.fx_script.specs.declared.job.Stmt.TheFolds.{fold-Stmt}
 use Rattle.fx_script.specs.Moves.{nowhere}
 use Rattle.fx_script.specs.Spelling.{Entry, chained, job_entries, IsWritable, Spells}
+use Rattle.fx_text.specs.Written.{spaced}
 
 -- ---- the text
-
--- words, each behind a space
-abbrev pub spaced : List (List ℕ) → List ℕ
-spaced [] = []
-spaced (w ∷ ws) = (32 ∷ w) ++ spaced ws
 
 -- a line of these words, one space between two, without its line end
 abbrev pub line_of : List (List ℕ) → List ℕ

@@ -19,7 +19,7 @@ use Rattle.fx_script.specs.declared.expr.Token.TheVariants as token
 use Rattle.fx_script.specs.declared.refusal.JobFault.TheVariants.{BadLine}
 use Rattle.fx_script.specs.declared.refusal.Wrong.{Wrong}
 use Rattle.fx_script.specs.Left.{Left}
-use Rattle.fx_script.specs.Names.{is_name}
+use Rattle.fx_text.specs.Names.{is_name}
 use Rattle.fx_script.specs.Outcome.{◌>>=◌}
 use Rattle.fx_script.specs.Fields.{misfit, number_in_word}
 

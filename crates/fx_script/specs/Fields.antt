@@ -13,7 +13,7 @@ use Rattle.fx_script.specs.declared.job.Test.TheVariants as test
 use Rattle.fx_script.specs.declared.refusal.JobFault.TheVariants.{BadLine, BadNumber}
 use Rattle.fx_script.specs.declared.refusal.Wrong.{Wrong}
 use Rattle.fx_script.specs.Left.{Left}
-use Rattle.fx_script.specs.Names.{is_name}
+use Rattle.fx_text.specs.Names.{is_name}
 use Rattle.fx_script.specs.Outcome.{◌>>=◌}
 
 -- a word that doesn't fit

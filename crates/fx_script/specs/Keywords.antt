@@ -77,7 +77,8 @@ keyword_text (k.Event word) = event_text word
 -- all keywords
 abbrev pub keywords : List Keyword
 keywords =
-    k.Simple simple_word.Print
+    k.Event event.Step
+    ∷ k.Simple simple_word.Print
     ∷ k.Simple simple_word.Let
     ∷ k.Simple simple_word.Set
     ∷ k.Simple simple_word.Register
@@ -101,7 +102,6 @@ keywords =
     ∷ k.Edge edge.EndIf
     ∷ k.Edge edge.For
     ∷ k.Edge edge.EndFor
-    ∷ k.Event event.Step
     ∷ k.Event event.Rest
     ∷ k.Event event.Deliver
     ∷ k.Event event.Kill

@@ -2,7 +2,6 @@ pub mod Left
 pub mod Outcome
 pub mod Tops
 pub mod Comments
-pub mod Names
 pub mod Fields
 pub mod Exprs
 pub mod Next

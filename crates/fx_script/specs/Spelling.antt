@@ -25,7 +25,7 @@ use Rattle.fx_script.specs.declared.job.Stmt.TheFolds.{fold-Stmt}
 use Rattle.fx_script.specs.declared.job.Test.{Test}
 use Rattle.fx_script.specs.declared.job.Test.TheVariants as test
 use Rattle.fx_script.specs.Exprs.{expr_words, is_writable_expr}
-use Rattle.fx_script.specs.Names.{is_name}
+use Rattle.fx_text.specs.Names.{is_name}
 use Rattle.fx_script.specs.SaidLines.{Met, spot_of, met_from, IsSound}
 
 -- ---- the words of fields

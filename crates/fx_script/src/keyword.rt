@@ -227,11 +227,11 @@ fn beginning_with(first: u8) -> &'static [Keyword]
             Keyword::Part(PartWord::Ranks),
         ],
         b's' => &[
+            Keyword::Event(EventWord::Step),
             Keyword::Simple(SimpleWord::Set),
             Keyword::Simple(SimpleWord::Sum),
             Keyword::Simple(SimpleWord::Shift),
             Keyword::Simple(SimpleWord::Store),
-            Keyword::Event(EventWord::Step),
             Keyword::Part(PartWord::Spares),
             Keyword::Part(PartWord::Separation),
             Keyword::Part(PartWord::Schedule),

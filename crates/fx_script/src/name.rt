@@ -1,6 +1,6 @@
 ghost use Rattle.std.specs.Prelude.{◌≡◌};
 ghost use Rattle.std.specs.List.{list_all};
-ghost use Rattle.fx_script.specs.Names.{is_letter, is_letter_or_digit, begins_with_letter, is_reserved, is_name};
+ghost use Rattle.fx_text.specs.Names.{is_letter, is_letter_or_digit, begins_with_letter, is_reserved, is_name};
 
 use crate::keyword::is_text;
 

@@ -6,10 +6,9 @@ ghost use Rattle.fx_script.specs.Spelling.{picked_words};
 
 use crate::expr::Expr;
 use crate::job::Picked;
-use crate::print_word::{
-    put_expr, put_number, put_numbers, put_picked, put_three_numbers, put_word,
-};
+use crate::print_word::{put_expr, put_numbers, put_picked, put_three_numbers, put_words};
 use fx_base::{Bytes, NoMemory};
+use fx_text::{put_number, put_word};
 
 /// Writes a line of one word.
 pub fn put_bare(out: &mut Bytes, first: &[u8]) -> Result<(), NoMemory>
@@ -38,8 +37,7 @@ pub fn put_two_named(
     ensures { OnOk result (out.new ≡ out.old ++ (line_of (first.now ∷ one.now ∷ other.now ∷ []) ++ 10 ∷ [])) }
 {
     out.append(first)?;
-    put_word(out, one)?;
-    put_word(out, other)?;
+    put_words(out, one, other)?;
     out.push(b'\n')
 }
 
@@ -82,8 +80,7 @@ pub fn put_two_sized(
     ensures { OnOk result (out.new ≡ out.old ++ (line_of (first.now ∷ one.now ∷ other.now ∷ signed_decimal number ∷ []) ++ 10 ∷ [])) }
 {
     out.append(first)?;
-    put_word(out, one)?;
-    put_word(out, other)?;
+    put_words(out, one, other)?;
     put_number(out, number)?;
     out.push(b'\n')
 }

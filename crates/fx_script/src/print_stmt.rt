@@ -10,8 +10,9 @@ use crate::print_line::{
     put_bare, put_computed, put_drop, put_member, put_named, put_numbered, put_restore, put_store,
     put_three_numbered, put_two_named, put_two_sized,
 };
-use crate::print_word::{op_text, put_bounds, put_exprs, put_word, role_text, test_text};
+use crate::print_word::{op_text, put_bounds, put_exprs, role_text, test_text};
 use fx_base::{Bytes, NoMemory};
+use fx_text::put_word;
 
 /// Writes the lines of statements and a last line of one word.
 #[cycle(printing)]

@@ -1,28 +1,20 @@
 ghost use Rattle.std.specs.Prelude.{◌≡◌, [], ◌∷◌, ◌++◌, OnOk};
 ghost use Rattle.std.specs.Fmt.{signed_decimal};
-ghost use Rattle.fx_script.specs.Canonical.{spaced};
+ghost use Rattle.fx_text.specs.Written.{spaced};
 ghost use Rattle.fx_script.specs.Exprs.{expr_words};
 ghost use Rattle.fx_script.specs.Spelling.{op_text, pairs_words, picked_words, role_text, test_text};
 
 use crate::expr::Expr;
 use crate::job::{Picked, Test};
 use fx_base::{Bytes, NoMemory, Op, Role};
-use fx_text::push_number;
+use fx_text::{put_number, put_word};
 
-/// Writes a word behind a space.
-pub fn put_word(out: &mut Bytes, word: &[u8]) -> Result<(), NoMemory>
-    ensures { OnOk result (out.new ≡ out.old ++ 32 ∷ word.now) }
+/// Writes two words, each behind a space.
+pub fn put_words(out: &mut Bytes, one: &[u8], other: &[u8]) -> Result<(), NoMemory>
+    ensures { OnOk result (out.new ≡ out.old ++ spaced (one.now ∷ other.now ∷ [])) }
 {
-    out.push(b' ')?;
-    out.append(word)
-}
-
-/// Writes a number behind a space.
-pub fn put_number(out: &mut Bytes, number: i64) -> Result<(), NoMemory>
-    ensures { OnOk result (out.new ≡ out.old ++ 32 ∷ signed_decimal number) }
-{
-    out.push(b' ')?;
-    push_number(out, number)
+    put_word(out, one)?;
+    put_word(out, other)
 }
 
 /// Writes two numbers, each behind a space.

@@ -1,6 +1,6 @@
 use Rattle.std.proofs.Common.{◌≡◌, ◌++◌, ℕ, List, OnOk, subst, ap, ◌∙◌, w64, to_z, of_z}
 use Rattle.std.proofs.lemmas.Int.{to_z-of_z}
-use Rattle.fx_script.specs.Canonical.{spaced}
+use Rattle.fx_text.specs.Written.{spaced}
 use Rattle.fx_script.proofs.PrintLemmas.{ends_line, three_numbers, same_three}
 use Rattle.fx_script.proofs.print_line.put_three_numbered.Goals as goal
 

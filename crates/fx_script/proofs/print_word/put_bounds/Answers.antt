@@ -2,7 +2,7 @@ use Rattle.std.proofs.Common.{◌≡◌, [], ◌∷◌, ◌++◌, ℕ, ℤ, List
 use Rattle.std.specs.Fmt.{signed_decimal}
 use Rattle.std.proofs.lemmas.Int.{to_z-of_z}
 use Rattle.std.proofs.lemmas.List.{append-nil}
-use Rattle.fx_script.specs.Canonical.{spaced}
+use Rattle.fx_text.specs.Written.{spaced}
 use Rattle.fx_script.specs.Exprs.{expr_words}
 use Rattle.fx_script.proofs.PrintLemmas.{behind_words}
 use Rattle.fx_script.proofs.print_word.put_bounds.Goals as goal
@@ -15,4 +15,4 @@ returns c =
     ap (λ (n : ℤ). c.put_expr.new.out ++ 32 ∷ signed_decimal n) (to_z-of_z w64 c.args.last c.ranges.last)
     ∙ ap (λ (l : List ℕ). c.put_expr.new.out ++ l) (sym (append-nil (32 ∷ last)))
     ∙ behind_words c.args.out.now c.put_expr.new.out words (last ∷ []) c.in_ok-put_expr.ensures in
-    subst (λ (text : List ℕ). OnOk c.put_number.result (c.put_number.new.out ≡ text)) e c.put_number.ensures
+    subst (λ (text : List ℕ). OnOk c.put_number.result (c.put_number.new.out ≡ text)) e c.put_number.ensures.ok

@@ -1,6 +1,6 @@
 -- What is written so far, with the pairs that are left, is the whole.
 use Rattle.std.proofs.Common.{◌≡◌, ◌++◌, drop}
-use Rattle.fx_script.specs.Canonical.{spaced}
+use Rattle.fx_text.specs.Written.{spaced}
 use Rattle.fx_script.specs.Spelling.{pairs_words}
 use Rattle.fx_script.proofs.print_word.put_pairs.Given as goal
 
