@@ -12,11 +12,10 @@ use crate::expr::{Expr, Step};
 use crate::expr_word::take_word;
 use crate::job::{NumPairs, Picked, Test};
 use crate::keyword::is_text;
-use crate::name::is_name;
 use crate::refusal::{JobFault, Stop, Wrong};
 use crate::stack::Stack;
 use fx_base::{Bytes, Role};
-use fx_text::{next_word, read_number};
+use fx_text::{is_name, next_word, read_number};
 use std::alloc::Global;
 use std::marker::Model;
 

@@ -6,10 +6,10 @@ ghost use Rattle.fx_script.specs.Next.{word_of};
 use crate::cursor::FoundWord;
 use crate::expr::{Expr, Pending, Sign, Step, Token, settle};
 use crate::keyword::is_text;
-use crate::name::is_name;
 use crate::refusal::Stop;
 use crate::stack::Stack;
 use fx_base::Bytes;
+use fx_text::is_name;
 use std::alloc::Global;
 
 /// Takes a word of an expression behind these signs; `group` says that a group is due.

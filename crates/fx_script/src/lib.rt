@@ -9,7 +9,6 @@ mod head;
 mod job;
 mod keyword;
 pub mod laws;
-mod name;
 mod order;
 mod print;
 mod print_line;

@@ -1,14 +1,13 @@
 ghost use Rattle.std.specs.Prelude.{◌≡◌};
 ghost use Rattle.std.specs.List.{list_all};
+ghost use Rattle.std.specs.Str.{bytes_eq};
 ghost use Rattle.fx_text.specs.Names.{is_letter, is_letter_or_digit, begins_with_letter, is_reserved, is_name};
-
-use crate::keyword::is_text;
 
 /// The most bytes of a name.
 const LONGEST_NAME: usize = 16;
 
 /// Whether a word is a name: a letter a to z and then up to 15 letters a to z or digits, and none of the words that
-/// stand for values of their own in expressions.
+/// stand for values of their own in a job.
 pub fn is_name(word: &[u8]) -> bool
     ensures { result ≡ is_name word.now }
 {
@@ -22,6 +21,12 @@ fn is_reserved(word: &[u8]) -> bool
         || is_text(word, "rank")
         || is_text(word, "size")
         || is_text(word, "latest")
+}
+
+fn is_text(word: &[u8], text: &str) -> bool
+    ensures { result ≡ bytes_eq word.now text.now }
+{
+    word == text.as_bytes()
 }
 
 fn begins_with_letter(word: &[u8]) -> bool
