@@ -1,5 +1,7 @@
 mod Along
 mod InStep
+mod Lengths
+mod Plain
 mod Rows
 mod Shared
 mod Steps
