@@ -1,7 +1,7 @@
 mod Along
 mod InStep
-mod Lengths
-mod Plain
+pub mod Lengths
+pub mod Plain
 mod Rows
 mod Shared
 mod Steps
