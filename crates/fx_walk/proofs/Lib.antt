@@ -1,5 +1,7 @@
 mod Along
 mod InStep
+pub mod Lengths
+pub mod Plain
 mod Rows
 mod Shared
 mod Steps

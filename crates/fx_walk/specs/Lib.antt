@@ -5,3 +5,4 @@ pub mod Along
 pub mod Callbacks
 pub mod Plan
 pub mod InStep
+pub mod Lengths

@@ -1,11 +1,17 @@
 //! Laws of walks.
 
-ghost use Rattle.std.specs.Prelude.{◌≡◌, ◌++◌, List, true};
+ghost use Rattle.std.specs.List.{list_all};
+ghost use Rattle.std.specs.Prelude.{◌≡◌, ◌++◌, ℕ, List, true};
 ghost use Rattle.fx_script.specs.declared.job.Job.{Job};
+ghost use Rattle.fx_script.specs.declared.job.Stmt.{Stmt};
+ghost use Rattle.fx_script.specs.Spelling.{stmts_fit};
+ghost use Rattle.fx_check.specs.Facts.{Facts};
 ghost use Rattle.fx_check.specs.Parts.{KeepsByParts};
+ghost use Rattle.fx_check.specs.Work.{work_of};
 ghost use Rattle.fx_walk.specs.declared.action.View.{View};
 ghost use Rattle.fx_walk.specs.State.{State};
-ghost use Rattle.fx_walk.specs.Walk.{Reply, Walk};
+ghost use Rattle.fx_walk.specs.Lengths.{IsWithin, OnlyPrints, is_plain};
+ghost use Rattle.fx_walk.specs.Walk.{Reply, Walk, walk_of};
 ghost use Rattle.fx_walk.specs.Along.{outputs, outputs_from, rest_after, stop_of};
 ghost use Rattle.fx_walk.specs.Plan.{Keeps, shared_of};
 ghost use Rattle.fx_walk.specs.InStep.{AreGivenAlike, StampsStay, effects, is_outside, job_plan, job_walk, latest_after, met, next_of, plan_after, plan_met};
@@ -44,4 +50,14 @@ pub fn ranks_are_in_step()
     ensures next { (job : Job) → KeepsByParts job → (one other : View) (state beside : State) (replies others : List Reply) → AreGivenAlike job one other state beside replies others
         → is_outside (next_of (rest_after (job_walk job one state) replies)) ≡ true → is_outside (next_of (rest_after (job_walk job other beside) others)) ≡ true
         → next_of (rest_after (job_walk job one state) replies) ≡ next_of (rest_after (job_walk job other beside) others) }
+{}
+
+/// The work of a body bounds the actions of its walk, whatever is replied.
+pub fn a_body_is_within_its_work()
+    ensures { (f : Facts) (body : List Stmt) (view : View) (state : State) → IsWithin (walk_of f body view state) (work_of body) }
+{}
+
+/// Plain statements that can be written ask nothing, and what they print has a name.
+pub fn plain_statements_only_print()
+    ensures { (f : Facts) (body : List Stmt) (room : ℕ) → stmts_fit body room ≡ true → list_all is_plain body ≡ true → (view : View) (state : State) → OnlyPrints (walk_of f body view state) }
 {}

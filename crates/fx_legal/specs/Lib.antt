@@ -1,0 +1,6 @@
+pub mod Groups
+pub mod Stands
+pub mod Ledger
+pub mod Effects
+pub mod Rules
+pub mod Legal
