@@ -1,0 +1,10 @@
+mod Bodies
+mod Words
+mod BarrierRow
+mod WireRow
+mod SpareRow
+mod AgreementRow
+mod NumbersRow
+mod ClosingRow
+mod CreationRow
+mod RefusalsRow
