@@ -16,7 +16,6 @@ use Rattle.fx_script.specs.declared.job.EventKind.{EventKind}
 use Rattle.fx_script.specs.declared.job.EventKind.TheVariants as event
 use Rattle.fx_script.specs.declared.job.Picked.TheVariants as picked
 use Rattle.fx_store.specs.Packed.{elements_in, run_in, runs_in, section_in, sections_in, text_in}
-use Rattle.fx_subset.specs.Indices.{blocks_of}
 use Rattle.fx_walk.specs.State.{elements_of}
 use Rattle.fx_walk.specs.Walk.{Meaning}
 use Rattle.fx_machine.specs.Numbers.{proc}
