@@ -1,5 +1,5 @@
 -- Bodies written out statement by statement, so that their walks compute, and the setups of jobs with such bodies.
-use Rattle.std.specs.Prelude.{ℕ, ◌+◌, ℤ, pos, Bool, false, List, [], ◌∷◌}
+use Rattle.std.specs.Prelude.{ℕ, ◌+◌, ℤ, false, List, [], ◌∷◌}
 use Rattle.fx_base.specs.declared.names.Op.{Op}
 use Rattle.fx_base.specs.declared.names.Role.{Role}
 use Rattle.fx_base.specs.declared.names.Role.TheVariants as role
@@ -11,8 +11,8 @@ use Rattle.fx_script.specs.declared.job.Decl.TheVariants as decl
 use Rattle.fx_script.specs.declared.job.Picked.{Picked}
 use Rattle.fx_script.specs.declared.job.Stmt.TheOpen.{Stmt-F}
 use Rattle.fx_store.specs.Mirror.{mirror}
-use Rattle.fx_walk.specs.Along.{outputs, stop_of}
-use Rattle.fx_walk.specs.Callbacks.{callbacks_at_init, body_start, prints_of, state_at, view_at_init}
+use Rattle.fx_walk.specs.Along.{outputs}
+use Rattle.fx_walk.specs.Callbacks.{callbacks_at_init, body_start, prints_of, view_at_init}
 use Rattle.fx_walk.specs.declared.action.View.{View}
 use Rattle.fx_walk.specs.declared.printed.Called.{Called}
 use Rattle.fx_walk.specs.declared.wanted.Wanted.TheVariants as wanted
@@ -98,8 +98,8 @@ abbrev pub body_of : List Meaning → View → State → Walk
 body_of meanings = in_turn meanings false ended
 
 -- so many ranks and spares, at separation 1, with this body and no callbacks
-abbrev pub row_setup : (ranks spares : ℕ) → Facts → List Meaning → Setup
-row_setup ranks spares f meanings = record {
+abbrev pub setup_of : (ranks spares : ℕ) → Facts → (View → State → Walk) → Setup
+setup_of ranks spares f body = record {
   ranks = ranks;
   procs = ranks + spares;
   redundancy = mirror 1;
@@ -108,8 +108,14 @@ row_setup ranks spares f meanings = record {
   blank = blank f;
   callbacks = callbacks_at_init f;
   start = body_start f;
-  body = body_of meanings;
+  body = body;
 }
+
+abbrev pub row_setup : (ranks spares : ℕ) → Facts → List Meaning → Setup
+row_setup ranks spares f meanings = setup_of ranks spares f (body_of meanings)
+
+abbrev pub two_ranks : Facts → (View → State → Walk) → Setup
+two_ranks = setup_of 2 0
 
 -- a callback that runs
 abbrev pub called_as : List ℕ → List Meaning → View → State → Called

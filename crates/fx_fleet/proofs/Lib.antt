@@ -8,3 +8,6 @@ mod NumbersRow
 mod ClosingRow
 mod CreationRow
 mod RefusalsRow
+mod Ties
+mod BarrierJob
+mod AgreementJob

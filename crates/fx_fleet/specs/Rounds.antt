@@ -1,5 +1,5 @@
 -- Rests, fair rounds, the events of a schedule, and the tail behind it.
-use Rattle.std.specs.Prelude.{ℕ, zero, suc, Bool, true, false, not, ◌&&◌, ◌||◌, if◌then◌else◌, ◌==◌, List, [], ◌∷◌, is_none}
+use Rattle.std.specs.Prelude.{ℕ, zero, suc, Bool, true, false, not, ◌||◌, if◌then◌else◌, ◌==◌, List, [], ◌∷◌, is_none}
 use Rattle.std.specs.List.{filter}
 use Rattle.fx_check.specs.Rules.{count_of}
 use Rattle.fx_item.specs.declared.item.Item.{Item}

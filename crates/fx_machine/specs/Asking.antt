@@ -1,8 +1,7 @@
 -- Outward statements: each is refused, answered at once, or enters its call.
-use Rattle.std.specs.Prelude.{ℕ, suc, ℤ, Bool, if◌then◌else◌, ◌==◌, List, [], ◌∷◌, Option, Some, None, option_map}
+use Rattle.std.specs.Prelude.{ℕ, suc, ℤ, if◌then◌else◌, ◌==◌, List, [], ◌∷◌, Option, Some, None, option_map}
 use Rattle.std.specs.FinMap as finite
 use Rattle.fx_base.specs.declared.names.GroupId.{GroupId}
-use Rattle.fx_base.specs.declared.names.Stamp.{Stamp}
 use Rattle.fx_ballot.specs.Turn.{Voting}
 use Rattle.fx_item.specs.declared.item.Item.{Item}
 use Rattle.fx_item.specs.declared.item.Item.TheVariants as item

@@ -1,5 +1,5 @@
 -- The action of a ballot, joins, and the decision of an epoch.
-use Rattle.std.specs.Prelude.{ℕ, suc, Bool, true, false, ◌&&◌, if◌then◌else◌, ◌==◌, nat_lt, List, [], ◌∷◌, get_or, length, Option, Some, None}
+use Rattle.std.specs.Prelude.{ℕ, suc, Bool, true, false, ◌&&◌, if◌then◌else◌, ◌==◌, nat_lt, List, [], ◌∷◌, get_or, Option, Some, None}
 use Rattle.std.specs.List.{list_all}
 use Rattle.fx_base.specs.declared.names.Role.{Role}
 use Rattle.fx_base.specs.declared.names.Role.TheVariants as role
@@ -7,14 +7,14 @@ use Rattle.fx_ballot.specs.declared.poll.Poll.{Poll}
 use Rattle.fx_ballot.specs.declared.poll.Poll.TheVariants as poll
 use Rattle.fx_ballot.specs.Names.{seat_of, has}
 use Rattle.fx_ballot.specs.Turn.{Phase, Voting, Turn}
-use Rattle.fx_comm.specs.Seats.{Seat, has_place, repaired}
+use Rattle.fx_comm.specs.Seats.{has_place, repaired}
 use Rattle.fx_item.specs.declared.item.Item.TheVariants as item
 use Rattle.fx_link.specs.declared.slot.Slot.{Slot}
 use Rattle.fx_link.specs.declared.slot.Slot.TheVariants as slot
 use Rattle.fx_machine.specs.Groups.{discarding, uncreated}
 use Rattle.fx_machine.specs.Nodes.{Node, Act, Stage, Joining, Arrived, Over, members, size, silently, writing, telling}
 use Rattle.fx_machine.specs.Numbers.{proc, epoch_no}
-use Rattle.fx_machine.specs.Reading.{About, Ballot, vote_text, estimate_text, is_join, next_ballot, turn_in}
+use Rattle.fx_machine.specs.Reading.{Ballot, vote_text, estimate_text, is_join, next_ballot, turn_in}
 use Rattle.fx_machine.specs.Setup.{Setup}
 
 -- it goes on in the ballot, and says nothing

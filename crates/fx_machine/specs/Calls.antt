@@ -9,7 +9,7 @@ use Rattle.fx_link.specs.declared.slot.Slot.{Slot}
 use Rattle.fx_link.specs.declared.slot.Slot.TheVariants as slot
 use Rattle.fx_walk.specs.declared.wanted.Wanted.{Wanted}
 use Rattle.fx_walk.specs.declared.wanted.Wanted.TheVariants as wanted
-use Rattle.fx_walk.specs.Walk.{Walk, Ends, Passes, Prints, Asks, Reply}
+use Rattle.fx_walk.specs.Walk.{Walk, Asks, Reply}
 use Rattle.fx_machine.specs.Ballots.{in_ballot}
 use Rattle.fx_machine.specs.Closing.{shares, closes}
 use Rattle.fx_machine.specs.Creating.{Creation, tells, gives, creates}

@@ -1,5 +1,5 @@
 -- Texts as the messages of the links, and messages as texts.
-use Rattle.std.specs.Prelude.{map, Option, option_map}
+use Rattle.std.specs.Prelude.{map, option_map}
 use Rattle.std.specs.FinMap as finite
 use Rattle.fx_base.specs.declared.shares.StampShares.{StampShares}
 use Rattle.fx_link.specs.declared.message.Known.{Known as KnownMessage}

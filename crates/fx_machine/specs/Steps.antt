@@ -1,5 +1,5 @@
 -- The one step of a node: the first action that is enabled.
-use Rattle.std.specs.Prelude.{ℕ, Bool, ◌||◌, if◌then◌else◌, List, [], ◌∷◌, ◌++◌, map, Option, Some, None}
+use Rattle.std.specs.Prelude.{Bool, ◌||◌, if◌then◌else◌, List, [], ◌∷◌, ◌++◌, map, Option, Some, None}
 use Rattle.std.specs.List.{list_any, flat_map}
 use Rattle.fx_comm.specs.Seats.{has_place}
 use Rattle.fx_item.specs.declared.item.Item.{Item}
@@ -8,7 +8,6 @@ use Rattle.fx_link.specs.declared.slot.Slot.TheVariants as slot
 use Rattle.fx_walk.specs.Callbacks.{view_at_init}
 use Rattle.fx_walk.specs.declared.printed.Called.{Called}
 use Rattle.fx_walk.specs.declared.printed.Printed.{Printed}
-use Rattle.fx_walk.specs.State.{State}
 use Rattle.fx_walk.specs.Walk.{Walk, Ends, Passes, Prints, Asks}
 use Rattle.fx_machine.specs.Asking.{asked}
 use Rattle.fx_machine.specs.Ballots.{in_ballot, joins, decides_epoch, warns}

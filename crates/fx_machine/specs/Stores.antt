@@ -1,5 +1,5 @@
 -- What a process keeps of a group, as the store of its snapshots, its shares and the creation that it stems from.
-use Rattle.std.specs.Prelude.{ℕ, ℤ, List, [], ◌∷◌, map}
+use Rattle.std.specs.Prelude.{ℤ, List, map}
 use Rattle.std.specs.FinMap as finite
 use Rattle.std.specs.FinSet as set
 use Rattle.fx_base.specs.declared.shares.StampShares.{StampShares}
