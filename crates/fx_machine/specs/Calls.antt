@@ -12,7 +12,7 @@ use Rattle.fx_walk.specs.declared.wanted.Wanted.TheVariants as wanted
 use Rattle.fx_walk.specs.Walk.{Walk, Asks, Reply}
 use Rattle.fx_machine.specs.Ballots.{in_ballot}
 use Rattle.fx_machine.specs.Closing.{shares, closes}
-use Rattle.fx_machine.specs.Creating.{Creation, tells, gives, creates}
+use Rattle.fx_machine.specs.Creating.{Creation, creation, tells, gives, creates}
 use Rattle.fx_machine.specs.Gathering.{gathers, passes, returns_number}
 use Rattle.fx_machine.specs.Groups.{deleting}
 use Rattle.fx_machine.specs.Nodes.{Node, Act, Core, Gathering, Sharing, Telling, Giving, Balloting, Stage, Calling, members, with_group}
@@ -35,7 +35,7 @@ deletes n g stamp rest = passes (with_group g.0 (deleting stamp.0 (n.groups g.0)
 abbrev pub affirmed : Setup → Node → Wanted → (Reply → Walk) → List Slot → Option Act
 affirmed s n (wanted.Agree flag) rest slots = Some (returns_number n rest (common_bits slots))
 affirmed s n (wanted.Close g) rest slots = Some (closes s n g rest)
-affirmed s n (wanted.Group g start depth) rest slots = Some (creates s n (record { group = g; start = start.0; depth = depth }) rest slots)
+affirmed s n (wanted.Group g start depth) rest slots = Some (creates s n (creation g start depth) rest slots)
 affirmed s n (wanted.Delete g stamp) rest slots = Some (deletes n g stamp rest)
 affirmed s n other rest slots = None
 
@@ -66,7 +66,7 @@ in_creation s n c other = None
 -- the action in front of a call's ballot, or of a call without one
 abbrev pub in_front : Setup → Node → Wanted → (Reply → Walk) → Core → Option Act
 in_front s n (wanted.Close g) rest Sharing = shares s n (n.groups g.0)
-in_front s n (wanted.Group g start depth) rest core = in_creation s n (record { group = g; start = start.0; depth = depth }) core
+in_front s n (wanted.Group g start depth) rest core = in_creation s n (creation g start depth) core
 in_front s n w rest Gathering = gathers n w rest
 in_front s n w rest other = None
 

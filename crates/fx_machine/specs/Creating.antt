@@ -6,6 +6,7 @@ use Rattle.std.specs.Str.{bytes_eq}
 use Rattle.fx_base.specs.declared.names.GroupId.{GroupId}
 use Rattle.fx_base.specs.declared.names.How.{How}
 use Rattle.fx_base.specs.declared.names.How.TheVariants as how
+use Rattle.fx_base.specs.declared.names.Stamp.{Stamp}
 use Rattle.fx_ballot.specs.Names.{seat_of, has}
 use Rattle.fx_check.specs.Facts.{or_first}
 use Rattle.fx_comm.specs.Seats.{Seat, idents_of, has_ident}
@@ -30,6 +31,10 @@ pub record Creation : Type 0 where
   pub group : GroupId
   pub start : ℤ
   pub depth : ℕ
+
+-- the creation that a statement asks for
+abbrev pub creation : GroupId → Stamp → ℕ → Creation
+creation group start depth = record { group = group; start = start.0; depth = depth }
 
 -- what the statement asks for
 abbrev pub wanted_by : Creation → Wanted
