@@ -1,0 +1,13 @@
+mod Bodies
+mod Words
+mod BarrierRow
+mod WireRow
+mod SpareRow
+mod AgreementRow
+mod NumbersRow
+mod ClosingRow
+mod CreationRow
+mod RefusalsRow
+mod Ties
+mod BarrierJob
+mod AgreementJob

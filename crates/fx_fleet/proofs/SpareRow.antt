@@ -1,0 +1,71 @@
+-- One of two ranks is lost before its repair, and the spare takes its identity; the survivor runs its callback.
+use Rattle.std.specs.Prelude.{◌≡◌, refl, pos, List, [], ◌∷◌, codes}
+use Rattle.fx_base.specs.Sets.{those_below}
+use Rattle.fx_base.specs.declared.names.Role.TheVariants as role
+use Rattle.fx_check.specs.Facts.{Facts}
+use Rattle.fx_check.specs.Work.{bound_with}
+use Rattle.fx_comm.specs.Seats.{Seat, seat, seats_from}
+use Rattle.fx_item.specs.declared.item.Item.{Item}
+use Rattle.fx_link.specs.declared.slot.Slot.TheVariants as slot
+use Rattle.fx_script.specs.declared.job.EventKind.{EventKind}
+use Rattle.fx_script.specs.declared.job.EventKind.TheVariants as event
+use Rattle.fx_walk.specs.Walk.{Meaning}
+use Rattle.fx_machine.specs.Setup.{Setup}
+use Rattle.fx_fleet.specs.Rounds.{journal}
+use Rattle.fx_fleet.specs.Runs.{rest_bound}
+use Rattle.fx_fleet.proofs.Bodies.{array, facts, barriers, prints, registers, row_setup, with_callback}
+use Rattle.fx_fleet.proofs.Words.{full, kill, join, repaired, callback, init, print, barrier, passed, failed, ended}
+
+abbrev seats01 : List Seat
+seats01 = seat 0 0 ∷ seat 1 1 ∷ []
+
+abbrev seats0at21 : List Seat
+seats0at21 = seat 0 2 ∷ seat 1 1 ∷ []
+
+abbrev pub known : Facts
+known = facts (array (codes "a") (pos 1) ∷ []) []
+
+abbrev pub body : List Meaning
+body =
+    registers known (codes "n") ∷ barriers known ∷ prints known (codes "a") ∷ []
+
+abbrev pub setup : Setup
+setup = with_callback known (codes "n") (prints known (codes "a") ∷ []) (row_setup 2 1 known body)
+
+abbrev pub events : List EventKind
+events = (event.Run (pos 1) ∷ event.Kill (pos 0) ∷ [])
+
+abbrev pub items : List Item
+items =
+    join 0 1 slot.Start
+    ∷ join 1 1 slot.Start
+    ∷ join 2 1 slot.Start
+    ∷ kill 0
+    ∷ repaired 2 1 2 full seats01
+    ∷ join 2 2 slot.Spare
+    ∷ repaired 1 1 2 full seats01
+    ∷ init 1 1 role.Initial 1 1 2 full
+    ∷ barrier 1 1 1
+    ∷ failed 1 1 1 0
+    ∷ join 1 2 slot.Error
+    ∷ repaired 2 2 2 full seats0at21
+    ∷ init 2 2 role.Recovered 0 0 2 full
+    ∷ barrier 2 2 1
+    ∷ repaired 1 2 2 full seats0at21
+    ∷ callback 1 2 (codes "n")
+    ∷ print 1 2 (codes "a") ((pos 0) ∷ [])
+    ∷ init 1 2 role.Survivor 1 1 2 full
+    ∷ barrier 1 2 1
+    ∷ passed 1 2 1
+    ∷ print 1 2 (codes "a") ((pos 0) ∷ [])
+    ∷ join 1 3 slot.Final
+    ∷ passed 2 2 1
+    ∷ print 2 2 (codes "a") ((pos 0) ∷ [])
+    ∷ join 2 3 slot.Final
+    ∷ ended 2
+    ∷ ended 1
+    ∷ []
+
+pub row : journal setup (rest_bound 3 3) (bound_with 3 3) events ≡ items
+unfolding those_below seats_from
+row = refl

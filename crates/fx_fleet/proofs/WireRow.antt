@@ -1,0 +1,75 @@
+-- Two ranks come to a barrier, and end: all that goes over the wire.
+use Rattle.std.specs.Prelude.{◌≡◌, refl, List, [], ◌∷◌}
+use Rattle.fx_base.specs.Sets.{those_below}
+use Rattle.fx_base.specs.declared.names.Role.TheVariants as role
+use Rattle.fx_check.specs.Facts.{Facts}
+use Rattle.fx_check.specs.Work.{bound_with}
+use Rattle.fx_comm.specs.Seats.{Seat, seat, seats_from}
+use Rattle.fx_item.specs.declared.item.Item.{Item}
+use Rattle.fx_link.specs.declared.slot.Slot.TheVariants as slot
+use Rattle.fx_script.specs.declared.job.EventKind.{EventKind}
+use Rattle.fx_walk.specs.Walk.{Meaning}
+use Rattle.fx_machine.specs.Setup.{Setup}
+use Rattle.fx_machine.specs.Texts.{Join, Jest, Part}
+use Rattle.fx_fleet.specs.Rounds.{wire}
+use Rattle.fx_fleet.specs.Runs.{rest_bound}
+use Rattle.fx_fleet.proofs.Bodies.{facts, barriers, row_setup}
+use Rattle.fx_fleet.proofs.Words.{full, join, repaired, init, barrier, passed, ended, send, deliver}
+
+abbrev seats01 : List Seat
+seats01 = seat 0 0 ∷ seat 1 1 ∷ []
+
+abbrev pub known : Facts
+known = facts [] []
+
+abbrev pub body : List Meaning
+body =
+    barriers known ∷ []
+
+abbrev pub setup : Setup
+setup = row_setup 2 0 known body
+
+abbrev pub events : List EventKind
+events = []
+
+abbrev pub items : List Item
+items =
+    join 0 1 slot.Start
+    ∷ send 0 1 (Join 1 slot.Start)
+    ∷ deliver 0 1 (Join 1 slot.Start)
+    ∷ join 1 1 slot.Start
+    ∷ send 1 0 (Join 1 slot.Start)
+    ∷ deliver 1 0 (Join 1 slot.Start)
+    ∷ send 0 1 (Jest 1 0 (slot.Start ∷ slot.Start ∷ []))
+    ∷ deliver 0 1 (Jest 1 0 (slot.Start ∷ slot.Start ∷ []))
+    ∷ send 1 0 (Jest 1 1 (slot.Start ∷ slot.Start ∷ []))
+    ∷ repaired 1 1 2 full seats01
+    ∷ init 1 1 role.Initial 1 1 2 full
+    ∷ barrier 1 1 1
+    ∷ send 1 0 (Part 1 1 [])
+    ∷ deliver 1 0 (Jest 1 1 (slot.Start ∷ slot.Start ∷ []))
+    ∷ deliver 1 0 (Part 1 1 [])
+    ∷ repaired 0 1 2 full seats01
+    ∷ init 0 1 role.Initial 0 0 2 full
+    ∷ barrier 0 1 1
+    ∷ send 0 1 (Part 1 1 [])
+    ∷ passed 0 1 1
+    ∷ join 0 2 slot.Final
+    ∷ send 0 1 (Join 2 slot.Final)
+    ∷ deliver 0 1 (Part 1 1 [])
+    ∷ deliver 0 1 (Join 2 slot.Final)
+    ∷ passed 1 1 1
+    ∷ join 1 2 slot.Final
+    ∷ send 1 0 (Join 2 slot.Final)
+    ∷ deliver 1 0 (Join 2 slot.Final)
+    ∷ send 0 1 (Jest 2 0 (slot.Final ∷ slot.Final ∷ []))
+    ∷ deliver 0 1 (Jest 2 0 (slot.Final ∷ slot.Final ∷ []))
+    ∷ send 1 0 (Jest 2 1 (slot.Final ∷ slot.Final ∷ []))
+    ∷ ended 1
+    ∷ deliver 1 0 (Jest 2 1 (slot.Final ∷ slot.Final ∷ []))
+    ∷ ended 0
+    ∷ []
+
+pub row : wire setup (rest_bound 2 1) (bound_with 2 1) events ≡ items
+unfolding those_below seats_from
+row = refl

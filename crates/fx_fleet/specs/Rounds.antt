@@ -1,0 +1,103 @@
+-- Rests, fair rounds, the events of a schedule, and the tail behind it.
+use Rattle.std.specs.Prelude.{ℕ, zero, suc, Bool, true, false, not, ◌||◌, if◌then◌else◌, ◌==◌, List, [], ◌∷◌, is_none}
+use Rattle.std.specs.List.{filter}
+use Rattle.fx_check.specs.Rules.{count_of}
+use Rattle.fx_item.specs.declared.item.Item.{Item}
+use Rattle.fx_item.specs.declared.item.Item.TheVariants as item
+use Rattle.fx_script.specs.declared.job.EventKind.{EventKind}
+use Rattle.fx_script.specs.declared.job.EventKind.TheVariants as event
+use Rattle.fx_store.specs.Redundancy.{each_below}
+use Rattle.fx_machine.specs.Setup.{Setup}
+use Rattle.fx_machine.specs.Steps.{next}
+use Rattle.fx_machine.specs.Texts.{Text}
+use Rattle.fx_fleet.specs.World.{World, first_world, up, steps, receives_front, delivers, kills, notices}
+
+-- a step again and again until the test holds, at most so many times
+abbrev pub until : {X : Type 0} → (X → Bool) → (X → X) → ℕ → X → X
+until done step zero x = x
+until {X} done step (suc more) x = elim (done x) as (λ b. X) [ true ↦ x | false ↦ until done step more (step x) ]
+
+-- the turns of 0 to n - 1, in rising order
+abbrev pub turns : {X : Type 0} → (ℕ → X → X) → ℕ → X → X
+turns turn zero x = x
+turns turn (suc n) x = turn n (turns turn n x)
+
+-- ---- a rest
+
+-- the process isn't up, or no action of it is enabled
+abbrev pub is_quiet : Setup → ℕ → World → Bool
+is_quiet s p w = not (up s w p) || is_none (next s (w.node p))
+
+-- it takes steps until it is quiet, at most so many
+abbrev pub rests : Setup → (fuel : ℕ) → ℕ → World → World
+rests s fuel p w = until (is_quiet s p) (steps s p) fuel w
+
+-- ---- a fair round
+
+-- process q receives all texts of a link
+abbrev pub receives_all : ℕ → ℕ → List Text → World → World
+receives_all p q [] w = w
+receives_all p q (t ∷ rest) w = receives_all p q rest (receives_front p q (t ∷ rest) w)
+
+-- q receives all that is on the link from another
+abbrev pub drains : ℕ → ℕ → World → World
+drains q p w = if p == q then w else receives_all p q (w.link p q) w
+
+-- it receives all that is on the links to it, and is told of each loss
+abbrev pub attends : Setup → ℕ → World → World
+attends s q w = turns (λ p. notices s p q) s.procs (turns (drains q) s.procs w)
+
+-- the turn of a process: if it is up it attends, and then rests
+abbrev pub fair_turn : Setup → (fuel : ℕ) → ℕ → World → World
+fair_turn s fuel q w = if up s w q then rests s fuel q (attends s q w) else w
+
+-- each process has its turn, in rising order
+abbrev pub fair_round : Setup → (fuel : ℕ) → World → World
+fair_round s fuel w = turns (fair_turn s fuel) s.procs w
+
+-- so many fair rounds
+abbrev pub fair_rounds : Setup → (fuel count : ℕ) → World → World
+fair_rounds s fuel count w = turns (λ i. fair_round s fuel) count w
+
+-- ---- the schedule and the tail
+
+-- what an event does; where its condition doesn't hold, nothing
+abbrev pub happens : Setup → (fuel : ℕ) → EventKind → World → World
+happens s fuel (event.Step p) w = steps s (count_of p) w
+happens s fuel (event.Rest p) w = rests s fuel (count_of p) w
+happens s fuel (event.Deliver p q) w = delivers s (count_of p) (count_of q) w
+happens s fuel (event.Kill p) w = kills s (count_of p) w
+happens s fuel (event.Notice p q) w = notices s (count_of p) (count_of q) w
+happens s fuel (event.Run count) w = fair_rounds s fuel (count_of count) w
+
+-- one event after another
+abbrev pub all_happen : Setup → (fuel : ℕ) → List EventKind → World → World
+all_happen s fuel [] w = w
+all_happen s fuel (e ∷ es) w = all_happen s fuel es (happens s fuel e w)
+
+-- each living process has ended
+abbrev pub all_over : Setup → World → Bool
+all_over s w = each_below s.procs (λ p. not (up s w p))
+
+-- fair rounds until each living process has ended, at most so many
+abbrev pub tail : Setup → (fuel bound : ℕ) → World → World
+tail s fuel bound w = until (all_over s) (fair_round s fuel) bound w
+
+-- the world behind a schedule and its tail
+abbrev pub whole : Setup → (fuel bound : ℕ) → List EventKind → World
+whole s fuel bound events = tail s fuel bound (all_happen s fuel events (first_world s))
+
+-- all that is written by then
+abbrev pub wire : Setup → (fuel bound : ℕ) → List EventKind → List Item
+wire s fuel bound events = (whole s fuel bound events).items
+
+-- an item of the journal; the others tell what goes over the wire
+abbrev pub is_of_journal : Item → Bool
+is_of_journal (item.Send p q message) = false
+is_of_journal (item.Deliver p q message) = false
+is_of_journal (item.Told p q) = false
+is_of_journal other = true
+
+-- the journal: all of it that doesn't tell what goes over the wire
+abbrev pub journal : Setup → (fuel bound : ℕ) → List EventKind → List Item
+journal s fuel bound events = filter is_of_journal (wire s fuel bound events)
