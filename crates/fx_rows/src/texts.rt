@@ -1,6 +1,6 @@
-ghost use Rattle.std.specs.Prelude.{◌<◌, length};
+ghost use Rattle.std.specs.Prelude.{◌<◌, length, IfOk};
 
-use crate::written::text_of;
+use crate::written::{bytes_of, text_of};
 use fx_base::{Bytes, Spot};
 use fx_script::JobFault::{BadLine, BadNumber, LineTooLong, MissingPart, NotAscii, TrailingText};
 use fx_script::{JobFault, ReadJob, print_job, read_job};
@@ -199,12 +199,25 @@ fn answer(alloc: Global, text: &Bytes) -> Result<Option<(JobFault, Spot)>, Fail>
     }
 }
 
-fn repeated(alloc: Global, lines: &str, times: u32) -> Result<String, Fail> {
-    let mut all = String::new(alloc);
+// The text of these lines, those in the middle so many times.
+fn repeated_text(
+    rt: &impl Abort,
+    alloc: Global,
+    before: &str,
+    lines: &str,
+    times: u32,
+    behind: &str,
+) -> Result<Bytes, Fail>
+    ensures { IfOk result (λ text. length text < 4096) }
+{
+    let mut text = bytes_of(alloc, &[before])?;
+    let lines = bytes_of(alloc, &[lines])?;
     for _ in 0..times {
-        all.push_str(lines)?;
+        text.append(lines.as_slice())?;
     }
-    Ok(all)
+    text.append(bytes_of(alloc, &[behind])?.as_slice())?;
+    assert!(rt; text.len() < 4096);
+    Ok(text)
 }
 
 // What is printed of the job in a text.
@@ -238,8 +251,7 @@ fn texts_are_refused(rt: HostRuntime) -> Result<(), Fail> {
 #[test]
 fn limits_are_kept(rt: HostRuntime) -> Result<(), Fail> {
     for (before, lines, times, behind, told) in REPEATED.iter().copied() {
-        let repeated = repeated(rt.alloc(), lines, times)?;
-        let text = text_of(&rt, rt.alloc(), &[before, repeated.as_str(), behind])?;
+        let text = repeated_text(&rt, rt.alloc(), before, lines, times, behind)?;
         let answer = answer(rt.alloc(), &text)?;
         let expected = match told {
             Some((fault, line, column)) => Some((fault, Spot { line, column })),
