@@ -12,7 +12,7 @@ use Rattle.std.proofs.lemmas.Bool.Decides.{nat_tests}
 use Rattle.std.proofs.lemmas.Bool.{ne_eqb}
 use Rattle.fx_base.specs.declared.memory.NoMemory.{NoMemory}
 use Rattle.fx_subset.specs.Elements.{chosen_from, gathered, if_chosen, put_if}
-use Rattle.fx_subset.specs.Indices.{is_between, is_covered, union_of}
+use Rattle.fx_subset.specs.Indices.{is_covered, union_of}
 use Rattle.fx_subset.specs.Runs.{AreApart, IsWhole}
 use Rattle.fx_subset.proofs.Cover.{contains-union_of}
 

@@ -1,7 +1,7 @@
 -- Entries that are written one after another.
 use Rattle.std.proofs.Common.{◌≡◌, ◌≢◌, ℕ, zero, suc, ◌+◌, ◌<◌, ◌==◌, Bool, true, false, cond, List, [], ◌∷◌, length, get_or, drop, set, slice_get, T, refl, ap, sym, subst, ◌∙◌, arith, zero-add}
 use Rattle.std.specs.Prelude.{ℤ, Option, None, Some, slice_set}
-use Rattle.std.specs.Ordering.{nat_cmp, eq_by_cmp}
+use Rattle.std.specs.Ordering.{nat_cmp}
 use Rattle.std.specs.Cmp.{unsigned_tied}
 use Rattle.std.specs.FinMap as finite
 use Rattle.std.specs.FinMap.{find, is_sorted}

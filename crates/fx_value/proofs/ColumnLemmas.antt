@@ -88,8 +88,8 @@ pub add_done : (a b t : Term) (x : Sight) (olds : List ℤ) (len : ℕ) (old lef
     → new ≡ sums left right → len ≡ length left → take len (new ++ drop (length new) old) ≡ term_values t x 0 olds
 add_done a b t x olds len old left right new is one other joined long =
     let whole : new ≡ term_values t x 0 olds =
-        joined ∙ ap (λ (l : List ℤ). sums l right) one ∙ ap (λ (l : List ℤ). sums (term_values a x 0 olds) l) other ∙ add_column a b x 0 olds
-        ∙ ap (λ (part : Term). term_values part x 0 olds) (sym is) in
+    joined ∙ ap (λ (l : List ℤ). sums l right) one ∙ ap (λ (l : List ℤ). sums (term_values a x 0 olds) l) other ∙ add_column a b x 0 olds
+    ∙ ap (λ (part : Term). term_values part x 0 olds) (sym is) in
     let same : length new ≡ len = ap length whole ∙ length-term_values t x 0 olds ∙ sym (long ∙ ap length one ∙ length-term_values a x 0 olds) in
     take_at new (drop (length new) old) len same ∙ whole
 
@@ -97,8 +97,8 @@ pub sub_done : (a b t : Term) (x : Sight) (olds : List ℤ) (len : ℕ) (old lef
     → new ≡ differences left right → len ≡ length left → take len (new ++ drop (length new) old) ≡ term_values t x 0 olds
 sub_done a b t x olds len old left right new is one other joined long =
     let whole : new ≡ term_values t x 0 olds =
-        joined ∙ ap (λ (l : List ℤ). differences l right) one ∙ ap (λ (l : List ℤ). differences (term_values a x 0 olds) l) other ∙ sub_column a b x 0 olds
-        ∙ ap (λ (part : Term). term_values part x 0 olds) (sym is) in
+    joined ∙ ap (λ (l : List ℤ). differences l right) one ∙ ap (λ (l : List ℤ). differences (term_values a x 0 olds) l) other ∙ sub_column a b x 0 olds
+    ∙ ap (λ (part : Term). term_values part x 0 olds) (sym is) in
     let same : length new ≡ len = ap length whole ∙ length-term_values t x 0 olds ∙ sym (long ∙ ap length one ∙ length-term_values a x 0 olds) in
     take_at new (drop (length new) old) len same ∙ whole
 
@@ -106,7 +106,7 @@ pub mul_done : (a b t : Term) (x : Sight) (olds : List ℤ) (len : ℕ) (old lef
     → new ≡ products left right → len ≡ length left → take len (new ++ drop (length new) old) ≡ term_values t x 0 olds
 mul_done a b t x olds len old left right new is one other joined long =
     let whole : new ≡ term_values t x 0 olds =
-        joined ∙ ap (λ (l : List ℤ). products l right) one ∙ ap (λ (l : List ℤ). products (term_values a x 0 olds) l) other ∙ mul_column a b x 0 olds
-        ∙ ap (λ (part : Term). term_values part x 0 olds) (sym is) in
+    joined ∙ ap (λ (l : List ℤ). products l right) one ∙ ap (λ (l : List ℤ). products (term_values a x 0 olds) l) other ∙ mul_column a b x 0 olds
+    ∙ ap (λ (part : Term). term_values part x 0 olds) (sym is) in
     let same : length new ≡ len = ap length whole ∙ length-term_values t x 0 olds ∙ sym (long ∙ ap length one ∙ length-term_values a x 0 olds) in
     take_at new (drop (length new) old) len same ∙ whole

@@ -79,38 +79,42 @@ fn arrays_and_counters_are_computed(rt: HostRuntime) -> Result<(), Fail> {
     ] {
         let mut values = Values::new(rt.alloc(), job.names.as_slice())?;
         computed(rt.alloc(), &job, &seen(Role::Initial, rank), &mut values)?;
-        assert_eq!(rt; values.array(0), a.as_slice(), "a of {rank}");
-        assert_eq!(rt; values.array(1), b.as_slice(), "b of {rank}");
+        assert_eq!(rt; values.array(0), a.as_slice());
+        assert_eq!(rt; values.array(1), b.as_slice());
         assert_eq!(rt; values.counter(0), 9223372036854775807);
         assert_eq!(rt; values.counter(1), 4);
     }
     Ok(())
 }
 
+fn filled(alloc: Global, job: &Job) -> Result<Values, Fail> {
+    let mut name = Bytes::new(alloc);
+    name.append(b"note")?;
+    let mut some = Sparse::new(alloc);
+    some.put(1, 7)?;
+    some.put(3, 9)?;
+    let mut values = Values::new(alloc, job.names.as_slice())?;
+    values.set_array(0, repeated(alloc, 5)?);
+    values.set_array(1, repeated(alloc, 6)?);
+    values.set_counter(1, 8);
+    values.write_some(0, &some);
+    values.register(&name)?;
+    values.register(&name)?;
+    Ok(values)
+}
+
 #[test]
 fn a_role_keeps_what_it_keeps(rt: HostRuntime) -> Result<(), Fail> {
     let job = read_job(rt.alloc(), SOURCE.as_bytes())?;
-    let mut name = Bytes::new(rt.alloc());
-    name.append(b"note")?;
-    let mut some = Sparse::new(rt.alloc());
-    some.put(1, 7)?;
-    some.put(3, 9)?;
     for (role, a, b, callbacks) in [
-        (Role::Survivor, [5, 7, 5, 9], [6, 6, 6, 6], 1),
+        (Role::Survivor, [5, 7, 5, 9], [6; 4], 1),
         (Role::Recovered, [0; 4], [0; 4], 0),
         (Role::Initial, [0; 4], [0; 4], 0),
     ] {
-        let mut values = Values::new(rt.alloc(), job.names.as_slice())?;
-        values.set_array(0, repeated(rt.alloc(), 5)?);
-        values.set_array(1, repeated(rt.alloc(), 6)?);
-        values.set_counter(1, 8);
-        values.write_some(0, &some);
-        values.register(&name)?;
-        values.register(&name)?;
-        assert_eq!(rt; values.callbacks().len(), 1);
+        let mut values = filled(rt.alloc(), &job)?;
         values.reset(role);
-        assert_eq!(rt; values.array(0), a.as_slice(), "a of {role:?}");
-        assert_eq!(rt; values.array(1), b.as_slice(), "b of {role:?}");
+        assert_eq!(rt; values.array(0), a.as_slice());
+        assert_eq!(rt; values.array(1), b.as_slice());
         assert_eq!(rt; values.counter(1), 0);
         assert_eq!(rt; values.callbacks().len(), callbacks);
     }
@@ -129,10 +133,14 @@ fn repeated(alloc: Global, value: i64) -> Result<Elems, Fail> {
 fn names_have_slots(rt: HostRuntime) -> Result<(), Fail> {
     let job = read_job(rt.alloc(), SOURCE.as_bytes())?;
     let names = job.names.as_slice();
-    for (name, array, counter, is_of_array) in [("a", 0, 2, true), ("b", 1, 2, true), ("d", 2, 1, false)] {
-        assert_eq!(rt; array_slot(names, name.as_bytes()), array, "{name}");
-        assert_eq!(rt; counter_slot(names, name.as_bytes()), counter, "{name}");
-        assert_eq!(rt; is_array(names, name.as_bytes()), is_of_array, "{name}");
+    for (name, array, counter, is_of_array) in [
+        ("a", 0, 2, true),
+        ("b", 1, 2, true),
+        ("d", 2, 1, false),
+    ] {
+        assert_eq!(rt; array_slot(names, name.as_bytes()), array);
+        assert_eq!(rt; counter_slot(names, name.as_bytes()), counter);
+        assert_eq!(rt; is_array(names, name.as_bytes()), is_of_array);
     }
     Ok(())
 }

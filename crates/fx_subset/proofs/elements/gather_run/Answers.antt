@@ -1,5 +1,5 @@
 use Rattle.std.proofs.Common.{ap, ◌∙◌, ◌≡◌, ◌+◌, ◌==◌, slice_get, arith}
-use Rattle.std.specs.Prelude.{ℕ, ℤ, Option}
+use Rattle.std.specs.Prelude.{ℤ, Option}
 use Rattle.fx_subset.specs.Elements.{put_if}
 use Rattle.fx_subset.proofs.Gathered.{run_more, run_done}
 use Rattle.fx_subset.proofs.elements.gather_run.Goals as goal

@@ -1,4 +1,4 @@
-use Rattle.std.proofs.Common.{◌≡◌, ◌≤◌, ◌<◌, ◌∙◌, sym, ap, length, arith, List, drop}
+use Rattle.std.proofs.Common.{◌≡◌, ◌≤◌, ◌<◌, ◌∙◌, sym, ap, length, arith, List}
 use Rattle.std.specs.Prelude.{ℕ, ℤ}
 use Rattle.std.specs.FinMap as finite
 use Rattle.std.proofs.lemmas.List.{drop_all}

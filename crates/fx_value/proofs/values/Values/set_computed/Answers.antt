@@ -12,5 +12,5 @@ pub returns-clause-meant : goal.returns-clause-meant
 returns-clause-meant c =
     let olds : List ℤ = get_or c.args.self.now.arrays c.args.slot [] in
     on_ok c.compute.result (λ same f expr is.
-        let values = ap (λ (t : Term). term_values t (sight c.args.view.now c.args.self.now) 0 olds) (c.term.ensures ∙ is) ∙ term_values-term_of f expr (sight c.args.view.now c.args.self.now) 0 olds in
-        same ∙ ap (λ (l : List ℤ). with_arrays c.args.self.now (slice_set c.args.self.now.arrays c.args.slot l)) values) c.compute.ensures.ok
+    let values = ap (λ (t : Term). term_values t (sight c.args.view.now c.args.self.now) 0 olds) (c.term.ensures ∙ is) ∙ term_values-term_of f expr (sight c.args.view.now c.args.self.now) 0 olds in
+    same ∙ ap (λ (l : List ℤ). with_arrays c.args.self.now (slice_set c.args.self.now.arrays c.args.slot l)) values) c.compute.ensures.ok
