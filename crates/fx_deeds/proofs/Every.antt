@@ -22,7 +22,7 @@ use Rattle.fx_machine.specs.Ballots.{moves, speaks, in_ballot, turned, may_join,
 use Rattle.fx_machine.specs.Calls.{balloting, affirmed, unless_error, decides_call, in_front, in_creation, in_call, calls}
 use Rattle.fx_machine.specs.Closing.{share_wait}
 use Rattle.fx_machine.specs.Creating.{creation, first_known, tell_wait, help_wait, give_wait, own_snapshots, finding, behind_tells, behind_gives, tells, gives}
-use Rattle.fx_machine.specs.Gathering.{are_gathered, gathered, gathering_error, gathers}
+use Rattle.fx_machine.specs.Gathering.{are_gathered, gathered, gathering_error, in_gathering}
 use Rattle.fx_machine.specs.Groups.{holds}
 use Rattle.fx_machine.specs.Local.{Refusal, refusal_of, found_at, restores}
 use Rattle.fx_machine.specs.Nodes.{Node, Act, Stage, Core, Begins, Joining, Arrived, Walking, Calling, Failed, Over, Gathering, Sharing, Telling, Giving, Balloting, members}
@@ -121,7 +121,7 @@ each_gathered s n (wanted.Store g m elements) rest is all = Quiet
 each_gathered s n (wanted.Commit g) rest is all = Quiet
 each_gathered s n (wanted.Restore g m stamp) rest is all = Quiet
 
-each_gathering : (s : Setup) (n : Node) (w : Wanted) (rest : Reply → Walk) → IsIn n Gathering w rest → Each (Deed s n) (gathers n w rest)
+each_gathering : (s : Setup) (n : Node) (w : Wanted) (rest : Reply → Walk) → IsIn n Gathering w rest → Each (Deed s n) (in_gathering n w rest)
 each_gathering s n w rest is =
     by_test (are_gathered n w) (each_gathered s n w rest is)
     (λ some. of_some (returns_error n) (gathering_error n w) (λ error e. GathersNoMore w rest error is some e))

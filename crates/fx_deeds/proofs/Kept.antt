@@ -13,17 +13,17 @@ append_none [] = refl
 append_none (x ∷ xs) = ap (λ ys. x ∷ ys) (append_none xs)
 
 -- a node that differs elsewhere alone
-same : (n m : Node) → m.me ≡ n.me → m.told ≡ n.told → m.kept ≡ n.kept → Keeps n m
+same : (n m : Node) → m.me ≡ n.me → m.lost ≡ n.lost → m.texts ≡ n.texts → Keeps n m
 same n m me told kept = record {
   me = me;
   told = told;
   other = λ q ne. ap (λ (f : ℕ → List Text). f q) kept;
   more = [];
-  own = ap (λ (f : ℕ → List Text). f n.me) kept ∙ append_none (n.kept n.me);
+  own = ap (λ (f : ℕ → List Text). f n.me) kept ∙ append_none (n.texts n.me);
 }
 
 -- an own text is kept by a node that differs elsewhere alone
-adds : (n m : Node) (t : Text) → m.me ≡ n.me → m.told ≡ n.told → m.kept ≡ n.kept → Keeps n (keeping t m)
+adds : (n m : Node) (t : Text) → m.me ≡ n.me → m.lost ≡ n.lost → m.texts ≡ n.texts → Keeps n (keeping t m)
 adds n m t me told kept = record {
   me = me;
   told = told;

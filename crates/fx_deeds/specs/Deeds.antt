@@ -18,7 +18,7 @@ use Rattle.fx_walk.specs.declared.wanted.Wanted.{Wanted}
 use Rattle.fx_walk.specs.declared.wanted.Wanted.TheVariants as wanted
 use Rattle.fx_walk.specs.State.{State}
 use Rattle.fx_walk.specs.Walk.{TextPlace, Walk, Ends, Passes, Prints, Asks, Reply}
-use Rattle.fx_machine.specs.Asking.{enters_barrier, enters_gathering_numbers, enters_voting, enters_shift, enters_creation, frozen, enters_closing}
+use Rattle.fx_machine.specs.Asking.{enters_barrier, enters_reduction, enters_voting, enters_shift, enters_creation, frozen, enters_closing}
 use Rattle.fx_machine.specs.Ballots.{moves, speaks, joined, all_final, voters, arrived, repairs, ends}
 use Rattle.fx_machine.specs.Calls.{balloting, common_bits, deletes}
 use Rattle.fx_machine.specs.Closing.{share_wait, closes}
@@ -129,7 +129,7 @@ pub data Deed (s : Setup) (n : Node) : Act → Type 0 where
   -- entering calls
   EntersBarrier : (rest : Reply → Walk) → AsksFor n wanted.Barrier rest → Deed s n (enters_barrier n)
   EntersReduction : (op : Op) (own : ℤ) (rest : Reply → Walk) → AsksFor n (wanted.Reduce op own) rest
-      → Deed s n (enters_gathering_numbers n (item.Reduce (proc n.me) (epoch_no n.epoch) (call_no (suc n.calls)) op own) own)
+      → Deed s n (enters_reduction n (item.Reduce (proc n.me) (epoch_no n.epoch) (call_no (suc n.calls)) op own) own)
   EntersShift : (by : ℕ) (elements : List ℤ) (rest : Reply → Walk) → AsksFor n (wanted.Shift by elements) rest → Deed s n (enters_shift n by elements)
   EntersAgreement : (flag : ℤ) (rest : Reply → Walk) → AsksFor n (wanted.Agree flag) rest
       → Deed s n (enters_voting n (item.Agree (proc n.me) (epoch_no n.epoch) (call_no (suc n.calls)) flag) (slot.Flag flag))
