@@ -1,3 +1,4 @@
 pub mod Every
 pub mod Whole
 pub mod Kept
+pub mod Facts

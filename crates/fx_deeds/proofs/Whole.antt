@@ -2,15 +2,12 @@
 use Rattle.std.proofs.lemmas.Bool.Decides.{nat_tests}
 use Rattle.std.proofs.Common.{arith, ◌≡◌, ℕ, zero, suc, Bool, true, false, ◌==◌, List, [], ◌∷◌, Option, Some, None, refl}
 use Rattle.std.specs.Prelude.{if◌then◌else◌}
-use Rattle.fx_check.specs.Rules.{count_of}
-use Rattle.fx_script.specs.declared.job.EventKind.{EventKind}
-use Rattle.fx_script.specs.declared.job.EventKind.TheVariants as event
 use Rattle.fx_machine.specs.Nodes.{Node, Act}
 use Rattle.fx_machine.specs.Setup.{Setup}
 use Rattle.fx_machine.specs.Steps.{next}
 use Rattle.fx_machine.specs.Texts.{Text}
 use Rattle.fx_fleet.specs.World.{World, first_world, up, does, does_if, steps, receives_front, loses, kills, delivers, learns, may_learn, notices}
-use Rattle.fx_fleet.specs.Rounds.{until, in_rising_order, is_quiet, rests, receives_all, drains, attends, fair_turn, fair_round, fair_rounds, happens, all_happen, all_over, tail, whole}
+use Rattle.fx_fleet.specs.Rounds.{Moment, Step, Rest, Deliver, Kill, Notice, Run, until, in_rising_order, is_quiet, rests, receives_all, drains, attends, fair_turn, fair_round, fair_rounds, happens, all_happen, all_over, tail, whole}
 use Rattle.fx_deeds.specs.Always.{IsKept}
 
 -- ---- choices, repetitions, in_rising_order
@@ -101,20 +98,20 @@ round_keeps s Is k fuel w is = rising_keep Is (fair_turn s fuel) (λ q x. turn_k
 
 -- ---- the schedule and the tail
 
-event_keeps : (s : Setup) (Is : World → Type 0) → IsKept s Is → (fuel : ℕ) (e : EventKind) (w : World) → Is w → Is (happens s fuel e w)
-event_keeps s Is k fuel (event.Step p) w is = step_keeps s Is k (count_of p) w is
-event_keeps s Is k fuel (event.Rest p) w is = rest_keeps s Is k fuel (count_of p) w is
-event_keeps s Is k fuel (event.Deliver p q) w is = delivery_keeps s Is k (count_of p) (count_of q) w is
-event_keeps s Is k fuel (event.Kill p) w is = kill_keeps s Is k (count_of p) w is
-event_keeps s Is k fuel (event.Notice p q) w is = notice_keeps s Is k (count_of p) (count_of q) w is
-event_keeps s Is k fuel (event.Run count) w is = rising_keep Is (λ i. fair_round s fuel) (λ i x. round_keeps s Is k fuel x) (count_of count) w is
+event_keeps : (s : Setup) (Is : World → Type 0) → IsKept s Is → (fuel : ℕ) (e : Moment) (w : World) → Is w → Is (happens s fuel e w)
+event_keeps s Is k fuel (Step p) w is = step_keeps s Is k p w is
+event_keeps s Is k fuel (Rest p) w is = rest_keeps s Is k fuel p w is
+event_keeps s Is k fuel (Deliver p q) w is = delivery_keeps s Is k p q w is
+event_keeps s Is k fuel (Kill p) w is = kill_keeps s Is k p w is
+event_keeps s Is k fuel (Notice p q) w is = notice_keeps s Is k p q w is
+event_keeps s Is k fuel (Run count) w is = rising_keep Is (λ i. fair_round s fuel) (λ i x. round_keeps s Is k fuel x) count w is
 
-pub events_keep : (s : Setup) (Is : World → Type 0) → IsKept s Is → (fuel : ℕ) (es : List EventKind) (w : World) → Is w → Is (all_happen s fuel es w)
+pub events_keep : (s : Setup) (Is : World → Type 0) → IsKept s Is → (fuel : ℕ) (es : List Moment) (w : World) → Is w → Is (all_happen s fuel es w)
 events_keep s Is k fuel [] w is = is
 events_keep s Is k fuel (e ∷ es) w is = events_keep s Is k fuel es (happens s fuel e w) (event_keeps s Is k fuel e w is)
 
 pub tail_keeps : (s : Setup) (Is : World → Type 0) → IsKept s Is → (fuel bound : ℕ) (w : World) → Is w → Is (tail s fuel bound w)
 tail_keeps s Is k fuel bound w is = until_keeps Is (all_over s) (fair_round s fuel) (λ x. round_keeps s Is k fuel x) bound w is
 
-pub always : (s : Setup) (Is : World → Type 0) → IsKept s Is → Is (first_world s) → (fuel bound : ℕ) (es : List EventKind) → Is (whole s fuel bound es)
+pub always : (s : Setup) (Is : World → Type 0) → IsKept s Is → Is (first_world s) → (fuel bound : ℕ) (es : List Moment) → Is (whole s fuel bound es)
 always s Is k first fuel bound es = tail_keeps s Is k fuel bound (all_happen s fuel es (first_world s)) (events_keep s Is k fuel es (first_world s) first)
