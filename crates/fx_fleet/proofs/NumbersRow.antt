@@ -1,29 +1,21 @@
 -- Three ranks add their numbers, and shift them by one place.
-use Rattle.std.specs.Prelude.{◌≡◌, refl, ℕ, ℤ, pos, negsuc, List, [], ◌∷◌, codes, get_or, Option, Some, None}
+use Rattle.std.specs.Prelude.{◌≡◌, refl, pos, List, [], ◌∷◌, codes}
 use Rattle.std.specs.Int.{w64, int_wrapping_add}
 use Rattle.fx_base.specs.Sets.{those_below}
-use Rattle.fx_base.specs.declared.names.How.TheVariants as how
 use Rattle.fx_base.specs.declared.names.Op.TheVariants as op
 use Rattle.fx_base.specs.declared.names.Role.TheVariants as role
 use Rattle.fx_check.specs.Facts.{Facts}
 use Rattle.fx_check.specs.Work.{bound_with}
 use Rattle.fx_comm.specs.Seats.{Seat, seat, seats_from}
-use Rattle.fx_item.specs.declared.answer.Answer.TheVariants as answer
-use Rattle.fx_item.specs.declared.answer.Refusable.TheVariants as refusable
 use Rattle.fx_item.specs.declared.item.Item.{Item}
 use Rattle.fx_link.specs.declared.slot.Slot.TheVariants as slot
-use Rattle.fx_fleet.specs.Rounds.{Moment, Step, Rest, Deliver, Kill, Notice, Run}
-use Rattle.fx_script.specs.declared.job.Picked.TheVariants as picked
-use Rattle.fx_store.specs.Packed.{elements_in, run_in, runs_in, section_in, sections_in, text_in}
-use Rattle.fx_walk.specs.State.{elements_of}
+use Rattle.fx_fleet.specs.Rounds.{Moment}
 use Rattle.fx_walk.specs.Walk.{Meaning}
-use Rattle.fx_machine.specs.Numbers.{proc}
 use Rattle.fx_machine.specs.Setup.{Setup}
-use Rattle.fx_machine.specs.Texts.{Text, Join, Jest, Part, Vote, Est, Share, Tell, Help, Give}
-use Rattle.fx_fleet.specs.Rounds.{journal, wire}
+use Rattle.fx_fleet.specs.Rounds.{journal}
 use Rattle.fx_fleet.specs.Runs.{rest_bound}
-use Rattle.fx_fleet.proofs.Bodies.{array, counter, attached, facts, barriers, prints, registers, reduces, agrees, shifts, groups, members, stores, commits, commit_barriers, restores, drops, lets, row_setup, with_callback}
-use Rattle.fx_fleet.proofs.Words.{full, depleted, kill, join, repaired, callback, init, print, attach, commit, refused, barrier, reduce, agree, shift, group, close, drop, passed, value, shifted, created, closed, failed, revoked, ended, send, deliver, told}
+use Rattle.fx_fleet.proofs.Bodies.{array, counter, facts, prints, reduces, shifts, lets, row_setup}
+use Rattle.fx_fleet.proofs.Words.{full, join, repaired, init, print, reduce, shift, value, shifted, ended}
 
 abbrev seats012 : List Seat
 seats012 = seat 0 0 ∷ seat 1 1 ∷ seat 2 2 ∷ []
