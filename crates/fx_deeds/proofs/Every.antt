@@ -1,36 +1,33 @@
 -- Each step of a node is one of the deeds.
 use Rattle.std.proofs.lemmas.Bool.Decides.{nat_tests}
 use Rattle.std.proofs.Common.{arith, ◌≡◌, ℕ, Bool, true, false, List, Option, Some, None, refl, subst}
-use Rattle.std.specs.Prelude.{if◌then◌else◌, option_map, nat_lt, ◌&&◌}
+use Rattle.std.specs.Prelude.{if◌then◌else◌, option_map}
 use Rattle.fx_base.specs.declared.names.GroupId.{GroupId}
-use Rattle.fx_base.specs.declared.names.MemberId.{MemberId}
 use Rattle.fx_base.specs.declared.names.Stamp.{Stamp}
 use Rattle.fx_ballot.specs.declared.poll.Poll.{Poll}
 use Rattle.fx_ballot.specs.declared.poll.Poll.TheVariants as poll
-use Rattle.fx_ballot.specs.Turn.{Phase, Turn}
+use Rattle.fx_ballot.specs.Turn.{Phase}
 use Rattle.fx_comm.specs.Seats.{has_place}
 use Rattle.fx_link.specs.declared.slot.Slot.{Slot}
 use Rattle.fx_link.specs.declared.slot.Slot.TheVariants as slot
 use Rattle.fx_walk.specs.declared.wanted.Wanted.{Wanted}
 use Rattle.fx_walk.specs.declared.wanted.Wanted.TheVariants as wanted
-use Rattle.fx_walk.specs.State.{State}
-use Rattle.fx_walk.specs.Walk.{TextPlace, Walk, Ends, Passes, Prints, Asks, Reply}
-use Rattle.fx_machine.specs.Asking.{asked, granted, unless_refused}
-use Rattle.fx_machine.specs.Ballots.{moves, speaks, in_ballot, turned, may_join, joins, is_end, decides_epoch}
+use Rattle.fx_walk.specs.Walk.{Walk, Ends, Passes, Prints, Asks, Reply}
+use Rattle.fx_machine.specs.Asking.{granted, unless_refused}
+use Rattle.fx_machine.specs.Ballots.{in_ballot, turned, may_join, joins, is_end, decides_epoch}
 use Rattle.fx_machine.specs.Calls.{balloting, affirmed, unless_error, decides_call, in_front, in_creation, in_call, in_asked_call}
 use Rattle.fx_machine.specs.Closing.{share_wait}
-use Rattle.fx_machine.specs.Creating.{creation, first_known, tell_wait, help_wait, give_wait, own_snapshots, finding, behind_tells, behind_gives}
+use Rattle.fx_machine.specs.Creating.{creation, first_known, tell_wait, help_wait, give_wait, behind_tells, behind_gives}
 use Rattle.fx_machine.specs.Gathering.{are_gathered, gathered, gathering_error, in_gathering}
 use Rattle.fx_machine.specs.Groups.{holds}
-use Rattle.fx_machine.specs.Local.{Refusal, refusal_of, found_at, restores}
+use Rattle.fx_machine.specs.Local.{Refusal, refusal_of}
 use Rattle.fx_machine.specs.Nodes.{Node, Act, Stage, Core, Begins, Joining, Arrived, Walking, Calling, Failed, Over, Gathering, Sharing, Telling, Giving, Balloting, members}
-use Rattle.fx_machine.specs.Packings.{Piece}
 use Rattle.fx_machine.specs.Reading.{Ballot, next_ballot, turn_in}
 use Rattle.fx_machine.specs.Setup.{Setup}
 use Rattle.fx_machine.specs.Steps.{next, next_at, in_walk, may_help_out}
 use Rattle.fx_machine.specs.Texts.{Known}
 use Rattle.fx_machine.specs.Waits.{Wait, Error, is_settled, first_unheard, call_ballot, casts, behind, unless_unheard, first_error, all_agree, returns_error}
-use Rattle.fx_deeds.specs.Deeds.{AsksFor, IsIn, InBallot, OfEpoch, OfCall, Reason, First, HelpsOut, HasFailed, IsDone, AllHeard, Unheard, WaitsIn, ForShares, ForTells, ForHelps, ForGives, Holds, IsHelped, IsAffirmed, Gathers, ABarrier, AReduction, AShift, Deed, Joins, Moves, Speaks, EndsAll, Repairs, Inits, PassesOn, PrintsOut, IsRefused, Attaches, Stores, Commits, Restores, EntersBarrier, EntersReduction, EntersShift, EntersAgreement, EntersDeletion, EntersClosing, EntersCreation, PassesBarrier, Reduces, Shifts, GathersNoMore, VotesNo, VotesYes, VotesFresh, HelpsAndGives, VotesFinding, ReturnsError, ReturnsBits, Closes, Creates, Deletes}
+use Rattle.fx_deeds.specs.Deeds.{AsksFor, IsIn, InBallot, OfEpoch, OfCall, Reason, First, HelpsOut, HasFailed, IsDone, AllHeard, Unheard, ForShares, ForTells, ForHelps, ForGives, Holds, IsHelped, IsAffirmed, Gathers, ABarrier, AReduction, AShift, Deed, Joins, Moves, Speaks, EndsAll, Repairs, Inits, PassesOn, PrintsOut, IsRefused, Attaches, Stores, Commits, Restores, EntersBarrier, EntersReduction, EntersShift, EntersAgreement, EntersDeletion, EntersClosing, EntersCreation, PassesBarrier, Reduces, Shifts, GathersNoMore, VotesNo, VotesYes, VotesFresh, HelpsAndGives, VotesFinding, ReturnsError, ReturnsBits, Closes, Creates, Deletes}
 
 -- whatever is done has the property
 pub data Each (Is : Act → Type 0) : Option Act → Type 0 where
@@ -119,8 +116,8 @@ each_tells s n g start depth rest is told None e = Does (VotesFresh g start dept
 each_tells s n g start depth rest is told (Some k) e =
     by_test (holds (n.groups g.0)) (λ has. Does (HelpsAndGives g start depth rest k is told e (Holds has)))
     (λ none. each_wait n (help_wait n (creation g start depth) k)
-      (λ x un. VotesNo Telling (wanted.Group g start depth) rest (help_wait n (creation g start depth) k) x is (ForHelps g start depth k told e none) un)
-      (λ helped. Does (HelpsAndGives g start depth rest k is told e (IsHelped none helped))))
+    (λ x un. VotesNo Telling (wanted.Group g start depth) rest (help_wait n (creation g start depth) k) x is (ForHelps g start depth k told e none) un)
+    (λ helped. Does (HelpsAndGives g start depth rest k is told e (IsHelped none helped))))
 
 each_gives : (s : Setup) (n : Node) (g : GroupId) (start : Stamp) (depth : ℕ) (rest : Reply → Walk) → IsIn n Giving (wanted.Group g start depth) rest
     → (k : Option Known) → first_known n (creation g start depth) ≡ k → Each (Deed s n) (behind_gives s n (creation g start depth) k)

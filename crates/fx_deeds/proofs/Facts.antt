@@ -1,12 +1,10 @@
 -- Facts of each node and of each world: a node is that of its process, and is told of the loss of the killed alone.
 use Rattle.std.proofs.lemmas.Bool.Decides.{nat_tests}
-use Rattle.std.proofs.Common.{arith, ◌≡◌, ℕ, Bool, true, false, ◌==◌, List, ◌∷◌, Some, refl, ap, ◌∙◌}
+use Rattle.std.proofs.Common.{arith, ◌≡◌, ℕ, Bool, true, false, ◌==◌, List, Some, refl, ap}
 use Rattle.std.specs.Prelude.{if◌then◌else◌}
 use Rattle.fx_machine.specs.Nodes.{Node, Act, first_node, receives, is_told}
 use Rattle.fx_machine.specs.Setup.{Setup}
 use Rattle.fx_machine.specs.Steps.{next}
-use Rattle.fx_machine.specs.Texts.{Text}
-use Rattle.fx_fleet.specs.World.{World, does, receives_front, loses, learns}
 use Rattle.fx_fleet.specs.Rounds.{Moment, whole}
 use Rattle.fx_deeds.specs.Always.{IsKept, IsOwn, AllAre, KnowThemselves, ToldOfKilled}
 use Rattle.fx_deeds.proofs.Every.{is_deed}

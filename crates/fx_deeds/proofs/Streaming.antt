@@ -1,6 +1,6 @@
 -- What a process has of another and what is under way to it is all that the other ever said to it.
 use Rattle.std.proofs.lemmas.Bool.Decides.{nat_tests}
-use Rattle.std.proofs.Common.{arith, ◌≡◌, ◌≢◌, ℕ, Bool, true, false, ◌==◌, List, [], ◌∷◌, ◌++◌, map, refl, sym, ap, ◌∙◌, ◌⊎◌, inl, inr}
+use Rattle.std.proofs.Common.{arith, ◌≡◌, ℕ, Bool, true, false, ◌==◌, List, [], ◌∷◌, ◌++◌, map, refl, sym, ap, ◌∙◌, ◌⊎◌, inl, inr}
 use Rattle.std.specs.Prelude.{if◌then◌else◌}
 use Rattle.fx_item.specs.declared.item.Item.{Item}
 use Rattle.fx_item.specs.declared.item.Item.TheVariants as item
@@ -64,20 +64,34 @@ later w q c more all e =
 
 act_streams : (s : Setup) (p : ℕ) (w : World) (act : Act) → up s w p ≡ true → (w.node p).me ≡ p → Keeps (w.node p) act.node → ((c q : ℕ) → said_to c q act.items ≡ [])
     → Streams s w → Streams s (does s p act w)
-act_streams s p w act on me k none h = record { whole = λ q c is ne untold.
-    elim (split (q == p)) [
-      | inl same ↦ grind (arith, nat_tests, same, on, me, ne, untold, k.other c, ap (λ (f : ℕ → Bool). f c) k.lost, h.whole p c, said_then s p w act c q (none c q), append_none (said_to c q w.items))
-      | inr apart ↦ elim (split (c == p)) [
-        | inl mine ↦ grind (arith, nat_tests, apart, mine, is, ne, untold, h.whole q c, said_then s p w act c q (none c q), later w q c (sent_to q act.sends) (said_to c q w.items))
-        | inr other ↦ grind (arith, nat_tests, apart, other, is, ne, untold, h.whole q c, said_then s p w act c q (none c q), append_none (said_to c q w.items))
-      ]
-    ] }
+act_streams s p w act on me k none h = record {
+  whole = λ q c is ne untold.
+      elim (split (q == p)) [
+        | inl same ↦ grind (arith, nat_tests, same, on, me, ne, untold, k.other c, ap (λ (f : ℕ → Bool). f c) k.lost, h.whole p c, said_then s p w act c q (none c q), append_none (said_to c q w.items))
+        | inr apart ↦ elim (split (c == p)) [
+          | inl mine ↦ grind (arith, nat_tests, apart, mine, is, ne, untold, h.whole q c, said_then s p w act c q (none c q), later w q c (sent_to q act.sends) (said_to c q w.items))
+          | inr other ↦ grind (arith, nat_tests, apart, other, is, ne, untold, h.whole q c, said_then s p w act c q (none c q), append_none (said_to c q w.items))
+        ]
+      ];
+}
 
 hear_streams : (s : Setup) (p q : ℕ) (t : Text) (rest : List Text) (w : World) → w.link p q ≡ t ∷ rest → (w.node q).me ≡ q → Streams s w
     → Streams s (receives_front p q (t ∷ rest) w)
-hear_streams s p q t rest w e me h = record { whole = λ r c is ne untold.
-    grind (arith, nat_tests, e, me, is, ne, untold, h.whole r c, said_else c r w.items (item.Deliver (proc p) (proc q) (message_of t)) refl,
-      append_assoc ((w.node q).texts p) (t ∷ []) rest) }
+hear_streams s p q t rest w e me h = record {
+  whole = λ r c is ne untold.
+      grind (
+        arith,
+        nat_tests,
+        e,
+        me,
+        is,
+        ne,
+        untold,
+        h.whole r c,
+        said_else c r w.items (item.Deliver (proc p) (proc q) (message_of t)) refl,
+        append_assoc ((w.node q).texts p) (t ∷ []) rest,
+      );
+}
 
 -- each node is that of its process, and links carry all that was said
 record Streaming (s : Setup) (w : World) : Type 0 where

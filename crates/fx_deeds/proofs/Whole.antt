@@ -2,12 +2,12 @@
 use Rattle.std.proofs.lemmas.Bool.Decides.{nat_tests}
 use Rattle.std.proofs.Common.{arith, ◌≡◌, ℕ, zero, suc, Bool, true, false, ◌==◌, List, [], ◌∷◌, Option, Some, None, refl}
 use Rattle.std.specs.Prelude.{if◌then◌else◌}
-use Rattle.fx_machine.specs.Nodes.{Node, Act}
+use Rattle.fx_machine.specs.Nodes.{Act}
 use Rattle.fx_machine.specs.Setup.{Setup}
 use Rattle.fx_machine.specs.Steps.{next}
 use Rattle.fx_machine.specs.Texts.{Text}
-use Rattle.fx_fleet.specs.World.{World, first_world, up, does, does_if, steps, receives_front, loses, kills, delivers, learns, may_learn, notices}
-use Rattle.fx_fleet.specs.Rounds.{Moment, Step, Rest, Deliver, Kill, Notice, Run, until, in_rising_order, is_quiet, rests, receives_all, drains, attends, fair_turn, fair_round, fair_rounds, happens, all_happen, all_over, tail, whole}
+use Rattle.fx_fleet.specs.World.{World, first_world, up, does_if, steps, receives_front, loses, kills, delivers, learns, may_learn, notices}
+use Rattle.fx_fleet.specs.Rounds.{Moment, Step, Rest, Deliver, Kill, Notice, Run, until, in_rising_order, is_quiet, rests, receives_all, drains, attends, fair_turn, fair_round, happens, all_happen, all_over, tail, whole}
 use Rattle.fx_deeds.specs.Always.{IsKept}
 
 -- ---- choices, repetitions, in_rising_order

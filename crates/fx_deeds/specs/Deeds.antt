@@ -1,5 +1,5 @@
 -- All that a node can do in a step, each deed with what enables it.
-use Rattle.std.specs.Prelude.{◌≡◌, ◌<◌, ℕ, suc, ℤ, Bool, true, false, ◌&&◌, nat_lt, List, [], ◌∷◌, Option, Some, None, unwrap_or}
+use Rattle.std.specs.Prelude.{◌≡◌, ◌<◌, ℕ, suc, ℤ, true, false, List, [], Some, None, unwrap_or}
 use Rattle.fx_base.specs.declared.names.GroupId.{GroupId}
 use Rattle.fx_base.specs.declared.names.MemberId.{MemberId}
 use Rattle.fx_base.specs.declared.names.Op.{Op}
@@ -8,7 +8,6 @@ use Rattle.fx_base.specs.declared.sparse.Sparse.{Sparse}
 use Rattle.fx_ballot.specs.declared.poll.Poll.TheVariants as poll
 use Rattle.fx_ballot.specs.Turn.{Phase}
 use Rattle.fx_comm.specs.Seats.{has_place}
-use Rattle.fx_item.specs.declared.item.Item.TheVariants as item
 use Rattle.fx_link.specs.declared.slot.Slot.{Slot}
 use Rattle.fx_link.specs.declared.slot.Slot.TheVariants as slot
 use Rattle.fx_walk.specs.declared.printed.Printed.{Printed}
@@ -20,13 +19,11 @@ use Rattle.fx_machine.specs.Asking.{enters_barrier, enters_reduction, enters_agr
 use Rattle.fx_machine.specs.Ballots.{moves, speaks, joined, is_end, voters, arrived, repairs, ends}
 use Rattle.fx_machine.specs.Calls.{balloting, common_bits, deletes}
 use Rattle.fx_machine.specs.Closing.{share_wait, closes}
-use Rattle.fx_machine.specs.Creating.{creation, group_of, first_known, tell_wait, help_wait, give_wait, own_snapshots, finding, helps_and_gives, creates}
+use Rattle.fx_machine.specs.Creating.{creation, first_known, tell_wait, help_wait, give_wait, own_snapshots, finding, helps_and_gives, creates}
 use Rattle.fx_machine.specs.Gathering.{are_gathered, gathering_error, passes, returns_number, returns_elements, total, numbers_of, source_of}
 use Rattle.fx_machine.specs.Groups.{holds}
 use Rattle.fx_machine.specs.Local.{Refusal, refusal_of, is_refused, found_at, attaches, stores, commits, restores}
 use Rattle.fx_machine.specs.Nodes.{Node, Act, Stage, Core, Begins, Joining, Arrived, Walking, Calling, Failed, Gathering, Sharing, Telling, Giving, Balloting, members, size, my_place}
-use Rattle.fx_machine.specs.Numbers.{proc, epoch_no, call_no}
-use Rattle.fx_machine.specs.Packings.{Piece}
 use Rattle.fx_machine.specs.Reading.{Ballot, is_join, next_ballot, turn_in}
 use Rattle.fx_machine.specs.Setup.{Setup}
 use Rattle.fx_machine.specs.Steps.{inits, may_help_out, passes_on, prints}

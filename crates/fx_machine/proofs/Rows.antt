@@ -1,10 +1,7 @@
 -- Rows of single nodes: what is read of messages that no node of a world would send.
-use Rattle.std.specs.Prelude.{◌≡◌, refl, ℕ, pos, negsuc, Bool, true, false, ◌==◌, if◌then◌else◌, List, [], ◌∷◌, Option, Some, None}
-use Rattle.fx_base.specs.declared.names.GroupId.{GroupId}
+use Rattle.std.specs.Prelude.{◌≡◌, refl, pos, negsuc, Bool, true, false, ◌==◌, if◌then◌else◌, List, [], ◌∷◌, Some, None}
 use Rattle.fx_base.specs.declared.names.Role.TheVariants as role
-use Rattle.fx_base.specs.declared.spot.Spot.{Spot}
 use Rattle.fx_base.specs.Sets.{those_below}
-use Rattle.fx_ballot.specs.Turn.{Voting}
 use Rattle.fx_comm.specs.Seats.{Seat, seat}
 use Rattle.fx_link.specs.declared.slot.Slot.TheVariants as slot
 use Rattle.fx_store.specs.Mirror.{mirror}
@@ -16,7 +13,7 @@ use Rattle.fx_machine.specs.Calls.{in_asked_call}
 use Rattle.fx_machine.specs.Closing.{kept_shares}
 use Rattle.fx_machine.specs.Creating.{Creation, creation, give_heard, known_at, own_snapshots}
 use Rattle.fx_machine.specs.Groups.{untouched}
-use Rattle.fx_machine.specs.Nodes.{Node, Calling, Gathering, Giving, Telling}
+use Rattle.fx_machine.specs.Nodes.{Node, Calling, Gathering, Telling}
 use Rattle.fx_machine.specs.Packings.{spelling}
 use Rattle.fx_machine.specs.Reading.{next_ballot, has_left, is_past, vote_of}
 use Rattle.fx_machine.specs.Setup.{Setup}

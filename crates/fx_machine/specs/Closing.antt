@@ -1,5 +1,5 @@
 -- The commit barrier: snapshots go to keepers, and are closed once all places have those of their wards.
-use Rattle.std.specs.Prelude.{ℕ, ℤ, ◌-ℤ◌, pos, Bool, true, false, ◌&&◌, if◌then◌else◌, List, [], ◌∷◌, map, Option, Some, None, is_some}
+use Rattle.std.specs.Prelude.{ℕ, ℤ, ◌-ℤ◌, pos, Bool, if◌then◌else◌, List, [], ◌∷◌, map, Option, Some, None, is_some}
 use Rattle.std.specs.Ordering.{int_eq}
 use Rattle.fx_base.specs.declared.names.GroupId.{GroupId}
 use Rattle.fx_item.specs.declared.item.Item.TheVariants as item

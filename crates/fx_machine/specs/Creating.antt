@@ -1,5 +1,5 @@
 -- The creation of a group: what is held is told, what was lost is made again, and new keepers get their shares.
-use Rattle.std.specs.Prelude.{ℕ, zero, suc, ◌+◌, ◌*◌, ℤ, pos, Bool, true, not, ◌&&◌, if◌then◌else◌, ◌==◌, nat_lt, nat_le, int_lt, int_le, List, [], ◌∷◌, ◌++◌, map, length, slice_get, Option, Some, None, is_some, is_none, option_map, option_and_then, unwrap_or}
+use Rattle.std.specs.Prelude.{ℕ, suc, ◌+◌, ◌*◌, ℤ, pos, Bool, true, not, ◌&&◌, if◌then◌else◌, ◌==◌, nat_lt, nat_le, int_lt, int_le, List, [], ◌∷◌, ◌++◌, map, length, slice_get, Option, Some, None, is_some, is_none, option_map, option_and_then, unwrap_or}
 use Rattle.std.specs.List.{list_all, position}
 use Rattle.std.specs.Ordering.{int_eq}
 use Rattle.fx_base.specs.declared.names.GroupId.{GroupId}
