@@ -2,18 +2,15 @@
 use Rattle.std.proofs.lemmas.Bool.Decides.{nat_tests}
 use Rattle.std.proofs.Common.{arith, ◌≡◌, ℕ, zero, suc, Bool, true, false, ◌==◌, List, [], ◌∷◌, Option, Some, None, refl}
 use Rattle.std.specs.Prelude.{if◌then◌else◌}
-use Rattle.fx_check.specs.Rules.{count_of}
-use Rattle.fx_script.specs.declared.job.EventKind.{EventKind}
-use Rattle.fx_script.specs.declared.job.EventKind.TheVariants as event
-use Rattle.fx_machine.specs.Nodes.{Node, Act}
+use Rattle.fx_machine.specs.Nodes.{Act}
 use Rattle.fx_machine.specs.Setup.{Setup}
 use Rattle.fx_machine.specs.Steps.{next}
 use Rattle.fx_machine.specs.Texts.{Text}
-use Rattle.fx_fleet.specs.World.{World, first_world, up, does, does_if, steps, receives_front, loses, kills, delivers, learns, may_learn, notices}
-use Rattle.fx_fleet.specs.Rounds.{until, turns, is_quiet, rests, receives_all, drains, attends, fair_turn, fair_round, fair_rounds, happens, all_happen, all_over, tail, whole}
+use Rattle.fx_fleet.specs.World.{World, first_world, up, does_if, steps, receives_front, loses, kills, delivers, learns, may_learn, notices}
+use Rattle.fx_fleet.specs.Rounds.{Moment, Step, Rest, Deliver, Kill, Notice, Run, until, in_rising_order, is_quiet, rests, receives_all, drains, attends, fair_turn, fair_round, happens, all_happen, all_over, tail, whole}
 use Rattle.fx_deeds.specs.Always.{IsKept}
 
--- ---- choices, repetitions, turns
+-- ---- choices, repetitions, in_rising_order
 
 if_keeps : {X : Type 0} (Is : X → Type 0) (b : Bool) (x y : X) → (b ≡ true → Is x) → (b ≡ false → Is y) → Is (if b then x else y)
 if_keeps Is true x y a c = a refl
@@ -24,9 +21,9 @@ until_keeps Is done step keep zero x is = is
 until_keeps {X} Is done step keep (suc n) x is =
     elim (done x) as (λ b. Is (elim b as (λ c. X) [ true ↦ x | false ↦ until done step n (step x) ])) [ true ↦ is | false ↦ until_keeps Is done step keep n (step x) (keep x is) ]
 
-pub turns_keep : {X : Type 0} (Is : X → Type 0) (turn : ℕ → X → X) → ((k : ℕ) (x : X) → Is x → Is (turn k x)) → (n : ℕ) (x : X) → Is x → Is (turns turn n x)
-turns_keep Is turn keep zero x is = is
-turns_keep Is turn keep (suc n) x is = keep n (turns turn n x) (turns_keep Is turn keep n x is)
+pub rising_keep : {X : Type 0} (Is : X → Type 0) (turn : ℕ → X → X) → ((k : ℕ) (x : X) → Is x → Is (turn k x)) → (n : ℕ) (x : X) → Is x → Is (in_rising_order turn n x)
+rising_keep Is turn keep zero x is = is
+rising_keep Is turn keep (suc n) x is = keep n (in_rising_order turn n x) (rising_keep Is turn keep n x is)
 
 -- ---- the single events
 
@@ -55,7 +52,7 @@ was_killed s p q w e = grind (arith, nat_tests, e)
 is_up : (s : Setup) (p q : ℕ) (w : World) → may_learn s p q w ≡ true → up s w q ≡ true
 is_up s p q w e = grind (arith, nat_tests, e)
 
-is_untold : (s : Setup) (p q : ℕ) (w : World) → may_learn s p q w ≡ true → (w.node q).told p ≡ false
+is_untold : (s : Setup) (p q : ℕ) (w : World) → may_learn s p q w ≡ true → (w.node q).lost p ≡ false
 is_untold s p q w e = grind (arith, nat_tests, e)
 
 notice_keeps : (s : Setup) (Is : World → Type 0) → IsKept s Is → (p q : ℕ) (w : World) → Is w → Is (notices s p q w)
@@ -89,32 +86,32 @@ rest_keeps s Is k fuel p w is = until_keeps Is (is_quiet s p) (steps s p) (λ x.
 
 attend_keeps : (s : Setup) (Is : World → Type 0) → IsKept s Is → (q : ℕ) (w : World) → up s w q ≡ true → Is w → Is (attends s q w)
 attend_keeps s Is k q w on is =
-    turns_keep Is (λ p. notices s p q) (λ p x. notice_keeps s Is k p q x) s.procs (turns (drains q) s.procs w)
-    (turns_keep (Attends Is s q) (drains q) (λ p x. drain_keeps s Is k q p x) s.procs w (on, is)).1
+    rising_keep Is (λ p. notices s p q) (λ p x. notice_keeps s Is k p q x) s.procs (in_rising_order (drains q) s.procs w)
+    (rising_keep (Attends Is s q) (drains q) (λ p x. drain_keeps s Is k q p x) s.procs w (on, is)).1
 
 turn_keeps : (s : Setup) (Is : World → Type 0) → IsKept s Is → (fuel q : ℕ) (w : World) → Is w → Is (fair_turn s fuel q w)
 turn_keeps s Is k fuel q w is =
     if_keeps Is (up s w q) (rests s fuel q (attends s q w)) w (λ on. rest_keeps s Is k fuel q (attends s q w) (attend_keeps s Is k q w on is)) (λ off. is)
 
 round_keeps : (s : Setup) (Is : World → Type 0) → IsKept s Is → (fuel : ℕ) (w : World) → Is w → Is (fair_round s fuel w)
-round_keeps s Is k fuel w is = turns_keep Is (fair_turn s fuel) (λ q x. turn_keeps s Is k fuel q x) s.procs w is
+round_keeps s Is k fuel w is = rising_keep Is (fair_turn s fuel) (λ q x. turn_keeps s Is k fuel q x) s.procs w is
 
 -- ---- the schedule and the tail
 
-event_keeps : (s : Setup) (Is : World → Type 0) → IsKept s Is → (fuel : ℕ) (e : EventKind) (w : World) → Is w → Is (happens s fuel e w)
-event_keeps s Is k fuel (event.Step p) w is = step_keeps s Is k (count_of p) w is
-event_keeps s Is k fuel (event.Rest p) w is = rest_keeps s Is k fuel (count_of p) w is
-event_keeps s Is k fuel (event.Deliver p q) w is = delivery_keeps s Is k (count_of p) (count_of q) w is
-event_keeps s Is k fuel (event.Kill p) w is = kill_keeps s Is k (count_of p) w is
-event_keeps s Is k fuel (event.Notice p q) w is = notice_keeps s Is k (count_of p) (count_of q) w is
-event_keeps s Is k fuel (event.Run count) w is = turns_keep Is (λ i. fair_round s fuel) (λ i x. round_keeps s Is k fuel x) (count_of count) w is
+event_keeps : (s : Setup) (Is : World → Type 0) → IsKept s Is → (fuel : ℕ) (e : Moment) (w : World) → Is w → Is (happens s fuel e w)
+event_keeps s Is k fuel (Step p) w is = step_keeps s Is k p w is
+event_keeps s Is k fuel (Rest p) w is = rest_keeps s Is k fuel p w is
+event_keeps s Is k fuel (Deliver p q) w is = delivery_keeps s Is k p q w is
+event_keeps s Is k fuel (Kill p) w is = kill_keeps s Is k p w is
+event_keeps s Is k fuel (Notice p q) w is = notice_keeps s Is k p q w is
+event_keeps s Is k fuel (Run count) w is = rising_keep Is (λ i. fair_round s fuel) (λ i x. round_keeps s Is k fuel x) count w is
 
-pub events_keep : (s : Setup) (Is : World → Type 0) → IsKept s Is → (fuel : ℕ) (es : List EventKind) (w : World) → Is w → Is (all_happen s fuel es w)
+pub events_keep : (s : Setup) (Is : World → Type 0) → IsKept s Is → (fuel : ℕ) (es : List Moment) (w : World) → Is w → Is (all_happen s fuel es w)
 events_keep s Is k fuel [] w is = is
 events_keep s Is k fuel (e ∷ es) w is = events_keep s Is k fuel es (happens s fuel e w) (event_keeps s Is k fuel e w is)
 
 pub tail_keeps : (s : Setup) (Is : World → Type 0) → IsKept s Is → (fuel bound : ℕ) (w : World) → Is w → Is (tail s fuel bound w)
 tail_keeps s Is k fuel bound w is = until_keeps Is (all_over s) (fair_round s fuel) (λ x. round_keeps s Is k fuel x) bound w is
 
-pub always : (s : Setup) (Is : World → Type 0) → IsKept s Is → Is (first_world s) → (fuel bound : ℕ) (es : List EventKind) → Is (whole s fuel bound es)
+pub always : (s : Setup) (Is : World → Type 0) → IsKept s Is → Is (first_world s) → (fuel bound : ℕ) (es : List Moment) → Is (whole s fuel bound es)
 always s Is k first fuel bound es = tail_keeps s Is k fuel bound (all_happen s fuel es (first_world s)) (events_keep s Is k fuel es (first_world s) first)

@@ -12,7 +12,7 @@ pub record IsKept (s : Setup) (Is : World → Type 0) : Type 0 where
   pub acts : (p : ℕ) (w : World) (act : Act) → up s w p ≡ true → next s (w.node p) ≡ Some act → Is w → Is (does s p act w)
   pub hears : (p q : ℕ) (t : Text) (rest : List Text) (w : World) → up s w q ≡ true → w.link p q ≡ t ∷ rest → Is w → Is (receives_front p q (t ∷ rest) w)
   pub kills : (p : ℕ) (w : World) → up s w p ≡ true → Is w → Is (loses s p w)
-  pub tells : (p q : ℕ) (w : World) → w.killed p ≡ true → up s w q ≡ true → (w.node q).told p ≡ false → Is w → Is (learns p q w)
+  pub tells : (p q : ℕ) (w : World) → w.killed p ≡ true → up s w q ≡ true → (w.node q).lost p ≡ false → Is w → Is (learns p q w)
 
 -- it holds of a node that hasn't done anything, and each deed, each text and each notice keep it
 pub record IsOwn (s : Setup) (Is : Node → Type 0) : Type 0 where
@@ -31,4 +31,4 @@ pub record KnowThemselves (w : World) : Type 0 where
 
 -- who is told lost was killed
 pub record ToldOfKilled (w : World) : Type 0 where
-  pub killed : (q c : ℕ) → (w.node q).told c ≡ true → w.killed c ≡ true
+  pub killed : (q c : ℕ) → (w.node q).lost c ≡ true → w.killed c ≡ true

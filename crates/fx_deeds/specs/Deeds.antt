@@ -1,7 +1,5 @@
 -- All that a node can do in a step, each deed with what enables it.
-use Rattle.std.specs.Prelude.{◌≡◌, ◌<◌, ℕ, suc, ℤ, Bool, true, false, ◌&&◌, nat_lt, List, [], ◌∷◌, Option, Some, None}
-use Rattle.std.specs.FinMap as finite
-use Rattle.std.specs.List.{list_all}
+use Rattle.std.specs.Prelude.{◌≡◌, ◌<◌, ℕ, suc, ℤ, true, false, List, [], Some, None, unwrap_or}
 use Rattle.fx_base.specs.declared.names.GroupId.{GroupId}
 use Rattle.fx_base.specs.declared.names.MemberId.{MemberId}
 use Rattle.fx_base.specs.declared.names.Op.{Op}
@@ -10,7 +8,6 @@ use Rattle.fx_base.specs.declared.sparse.Sparse.{Sparse}
 use Rattle.fx_ballot.specs.declared.poll.Poll.TheVariants as poll
 use Rattle.fx_ballot.specs.Turn.{Phase}
 use Rattle.fx_comm.specs.Seats.{has_place}
-use Rattle.fx_item.specs.declared.item.Item.TheVariants as item
 use Rattle.fx_link.specs.declared.slot.Slot.{Slot}
 use Rattle.fx_link.specs.declared.slot.Slot.TheVariants as slot
 use Rattle.fx_walk.specs.declared.printed.Printed.{Printed}
@@ -18,22 +15,20 @@ use Rattle.fx_walk.specs.declared.wanted.Wanted.{Wanted}
 use Rattle.fx_walk.specs.declared.wanted.Wanted.TheVariants as wanted
 use Rattle.fx_walk.specs.State.{State}
 use Rattle.fx_walk.specs.Walk.{TextPlace, Walk, Ends, Passes, Prints, Asks, Reply}
-use Rattle.fx_machine.specs.Asking.{enters_barrier, enters_gathering_numbers, enters_voting, enters_shift, enters_creation, frozen, enters_closing}
-use Rattle.fx_machine.specs.Ballots.{moves, speaks, joined, all_final, voters, arrived, repairs, ends}
+use Rattle.fx_machine.specs.Asking.{enters_barrier, enters_reduction, enters_agreement, enters_deletion, enters_shift, enters_creation, frozen, enters_closing}
+use Rattle.fx_machine.specs.Ballots.{moves, speaks, joined, is_end, voters, arrived, repairs, ends}
 use Rattle.fx_machine.specs.Calls.{balloting, common_bits, deletes}
 use Rattle.fx_machine.specs.Closing.{share_wait, closes}
-use Rattle.fx_machine.specs.Creating.{creation, group_of, first_known, tell_wait, help_wait, give_wait, own_snapshots, finding, helps_and_gives, creates}
+use Rattle.fx_machine.specs.Creating.{creation, first_known, tell_wait, help_wait, give_wait, own_snapshots, finding, helps_and_gives, creates}
 use Rattle.fx_machine.specs.Gathering.{are_gathered, gathering_error, passes, returns_number, returns_elements, total, numbers_of, source_of}
 use Rattle.fx_machine.specs.Groups.{holds}
 use Rattle.fx_machine.specs.Local.{Refusal, refusal_of, is_refused, found_at, attaches, stores, commits, restores}
 use Rattle.fx_machine.specs.Nodes.{Node, Act, Stage, Core, Begins, Joining, Arrived, Walking, Calling, Failed, Gathering, Sharing, Telling, Giving, Balloting, members, size, my_place}
-use Rattle.fx_machine.specs.Numbers.{proc, epoch_no, call_no}
-use Rattle.fx_machine.specs.Packings.{Elements}
 use Rattle.fx_machine.specs.Reading.{Ballot, is_join, next_ballot, turn_in}
 use Rattle.fx_machine.specs.Setup.{Setup}
 use Rattle.fx_machine.specs.Steps.{inits, may_help_out, passes_on, prints}
 use Rattle.fx_machine.specs.Texts.{Known}
-use Rattle.fx_machine.specs.Waits.{Wait, Error, has_ended, first_unheard, call_ballot, casts, first_error, is_affirmative, returns_error}
+use Rattle.fx_machine.specs.Waits.{Wait, Error, is_settled, first_unheard, call_ballot, casts, first_error, all_agree, returns_error}
 
 -- ---- where a node stands
 
@@ -67,13 +62,13 @@ pub data Reason (n : Node) : Slot → Type 0 where
 
 -- all that were awaited were heard
 pub record AllHeard (w : Wait) : Type 0 where
-  pub ended : has_ended w ≡ true
+  pub settled : is_settled w ≡ true
   pub heard : first_unheard w ≡ None
 
 -- the first that wasn't heard has this no
 pub record Unheard (w : Wait) (no : Slot) : Type 0 where
   pub place : ℕ
-  pub ended : has_ended w ≡ true
+  pub settled : is_settled w ≡ true
   pub first : first_unheard w ≡ Some place
   pub says : w.no place ≡ Some no
 
@@ -98,7 +93,13 @@ pub record IsAffirmed (n : Node) (w : Wanted) (rest : Reply → Walk) (slots : L
   pub within : IsIn n (Balloting phase) w rest
   pub decided : (turn_in (call_ballot n w) n phase).poll ≡ poll.Decided slots
   pub no_error : first_error (members n) slots ≡ None
-  pub affirmative : list_all is_affirmative slots ≡ true
+  pub affirmative : all_agree slots ≡ true
+
+-- the statements that gather parts
+pub data Gathers : Wanted → Type 0 where
+  ABarrier : Gathers wanted.Barrier
+  AReduction : (op : Op) (own : ℤ) → Gathers (wanted.Reduce op own)
+  AShift : (by : ℕ) (elements : List ℤ) → Gathers (wanted.Shift by elements)
 
 -- ---- deeds
 
@@ -110,9 +111,9 @@ pub data Deed (s : Setup) (n : Node) : Act → Type 0 where
   Speaks : (b : Ballot) (at : Phase → Stage) (phase : Phase) (slots : List Slot) → InBallot n b at phase → (turn_in b n phase).poll ≡ poll.SendEstimate slots
       → Deed s n (speaks b n at (turn_in b n phase).phase slots)
   EndsAll : (phase : Phase) (slots : List Slot) → n.stage ≡ Joining phase → (turn_in (next_ballot n) n phase).poll ≡ poll.Decided slots
-      → nat_lt 0 n.epoch && all_final n slots ≡ true → Deed s n (ends n)
+      → is_end n slots ≡ true → Deed s n (ends n)
   Repairs : (phase : Phase) (slots : List Slot) → n.stage ≡ Joining phase → (turn_in (next_ballot n) n phase).poll ≡ poll.Decided slots
-      → nat_lt 0 n.epoch && all_final n slots ≡ false → Deed s n (repairs s (arrived (voters (is_join (suc n.epoch)) n.present slots) n))
+      → is_end n slots ≡ false → Deed s n (repairs s (arrived (voters (is_join (suc n.epoch)) n.present slots) n))
   -- along the walk
   Inits : n.stage ≡ Arrived → has_place n.comm n.me ≡ true → Deed s n (inits s n)
   PassesOn : (rest : Walk) → n.stage ≡ Walking → n.walk ≡ Passes rest → Deed s n (passes_on rest n)
@@ -120,21 +121,21 @@ pub data Deed (s : Setup) (n : Node) : Act → Type 0 where
   IsRefused : (w : Wanted) (rest : Reply → Walk) (r : Refusal) → AsksFor n w rest → refusal_of s n w ≡ Some r → Deed s n (is_refused n rest r)
   Attaches : (g : GroupId) (m : MemberId) (rest : Reply → Walk) → AsksFor n (wanted.Attach g m) rest → refusal_of s n (wanted.Attach g m) ≡ None
       → Deed s n (attaches n rest g m)
-  Stores : (g : GroupId) (m : MemberId) (elements : Sparse) (rest : Reply → Walk) → AsksFor n (wanted.Store g m elements) rest
-      → refusal_of s n (wanted.Store g m elements) ≡ None → Deed s n (stores n rest g m elements (finite.entries elements))
+  Stores : (g : GroupId) (m : MemberId) (piece : Sparse) (rest : Reply → Walk) → AsksFor n (wanted.Store g m piece) rest
+      → refusal_of s n (wanted.Store g m piece) ≡ None → Deed s n (stores n rest g m piece)
   Commits : (g : GroupId) (rest : Reply → Walk) → AsksFor n (wanted.Commit g) rest → refusal_of s n (wanted.Commit g) ≡ None → Deed s n (commits n rest g)
-  Restores : (g : GroupId) (m : MemberId) (stamp : Stamp) (elements : Elements) (rest : Reply → Walk) → AsksFor n (wanted.Restore g m stamp) rest
-      → refusal_of s n (wanted.Restore g m stamp) ≡ None → found_at (s.member_len g m) m.0 (n.groups g.0) stamp.0 ≡ Some elements
-      → Deed s n (restores n rest g m stamp elements)
+  Restores : (g : GroupId) (m : MemberId) (stamp : Stamp) (rest : Reply → Walk) → AsksFor n (wanted.Restore g m stamp) rest
+      → refusal_of s n (wanted.Restore g m stamp) ≡ None
+      → Deed s n (restores n rest g m stamp (unwrap_or (found_at (s.member_len g m) m.0 (n.groups g.0) stamp.0) []))
   -- entering calls
   EntersBarrier : (rest : Reply → Walk) → AsksFor n wanted.Barrier rest → Deed s n (enters_barrier n)
   EntersReduction : (op : Op) (own : ℤ) (rest : Reply → Walk) → AsksFor n (wanted.Reduce op own) rest
-      → Deed s n (enters_gathering_numbers n (item.Reduce (proc n.me) (epoch_no n.epoch) (call_no (suc n.calls)) op own) own)
+      → Deed s n (enters_reduction n op own)
   EntersShift : (by : ℕ) (elements : List ℤ) (rest : Reply → Walk) → AsksFor n (wanted.Shift by elements) rest → Deed s n (enters_shift n by elements)
   EntersAgreement : (flag : ℤ) (rest : Reply → Walk) → AsksFor n (wanted.Agree flag) rest
-      → Deed s n (enters_voting n (item.Agree (proc n.me) (epoch_no n.epoch) (call_no (suc n.calls)) flag) (slot.Flag flag))
+      → Deed s n (enters_agreement n flag)
   EntersDeletion : (g : GroupId) (stamp : Stamp) (rest : Reply → Walk) → AsksFor n (wanted.Delete g stamp) rest → refusal_of s n (wanted.Delete g stamp) ≡ None
-      → Deed s n (enters_voting n (item.Drop (proc n.me) (epoch_no n.epoch) (call_no (suc n.calls)) g stamp) slot.Yes)
+      → Deed s n (enters_deletion n g stamp)
   EntersClosing : (g : GroupId) (rest : Reply → Walk) → AsksFor n (wanted.Close g) rest → refusal_of s n (wanted.Close g) ≡ None
       → Deed s n (enters_closing s (frozen g n) g)
   EntersCreation : (g : GroupId) (start : Stamp) (depth : ℕ) (rest : Reply → Walk) → AsksFor n (wanted.Group g start depth) rest
@@ -146,7 +147,7 @@ pub data Deed (s : Setup) (n : Node) : Act → Type 0 where
   Shifts : (by : ℕ) (elements : List ℤ) (rest : Reply → Walk) → IsIn n Gathering (wanted.Shift by elements) rest
       → are_gathered n (wanted.Shift by elements) ≡ true
       → Deed s n (returns_elements n rest (numbers_of n (wanted.Shift by elements) (source_of (size n) by (my_place n))))
-  GathersNoMore : (w : Wanted) (rest : Reply → Walk) (error : Error) → IsIn n Gathering w rest → are_gathered n w ≡ false → gathering_error n w ≡ Some error
+  GathersNoMore : (w : Wanted) (rest : Reply → Walk) (error : Error) → Gathers w → IsIn n Gathering w rest → are_gathered n w ≡ false → gathering_error n w ≡ Some error
       → Deed s n (returns_error n error)
   -- votes
   VotesNo : (core : Core) (w : Wanted) (rest : Reply → Walk) (wait : Wait) (no : Slot) → IsIn n core w rest → WaitsIn s n core w wait → Unheard wait no

@@ -22,12 +22,12 @@ said_to c q (i ∷ items) = said_of c q i ++ said_to c q items
 -- What a process that is up has of another, and what is under way to it from there, is all that the other ever said to it, unless it was
 -- told of the other's loss.
 pub record Streams (s : Setup) (w : World) : Type 0 where
-  pub whole : (q c : ℕ) → up s w q ≡ true → c ≢ q → (w.node q).told c ≡ false → map message_of ((w.node q).kept c ++ w.link c q) ≡ said_to c q w.items
+  pub whole : (q c : ℕ) → up s w q ≡ true → c ≢ q → (w.node q).lost c ≡ false → map message_of ((w.node q).texts c ++ w.link c q) ≡ said_to c q w.items
 
 -- what a step leaves as it is: of others nothing is read away, nothing is learned of losses; one's own texts grow
 pub record Keeps (n : Node) (m : Node) : Type 0 where
   pub me : m.me ≡ n.me
-  pub told : m.told ≡ n.told
-  pub other : (q : ℕ) → q ≢ n.me → m.kept q ≡ n.kept q
+  pub lost : m.lost ≡ n.lost
+  pub other : (q : ℕ) → q ≢ n.me → m.texts q ≡ n.texts q
   pub more : List Text
-  pub own : m.kept n.me ≡ n.kept n.me ++ more
+  pub own : m.texts n.me ≡ n.texts n.me ++ more

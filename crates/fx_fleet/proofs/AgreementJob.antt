@@ -6,6 +6,7 @@ use Rattle.fx_check.specs.Work.{work_of}
 use Rattle.fx_script.specs.Spelling.{chained}
 use Rattle.fx_script.specs.declared.job.Event.{Event}
 use Rattle.fx_script.specs.declared.job.EventKind.{EventKind}
+use Rattle.fx_script.specs.declared.job.EventKind.TheVariants as event
 use Rattle.fx_script.specs.declared.job.Job.{Job}
 use Rattle.fx_script.specs.declared.job.Stmt.{Stmt}
 use Rattle.fx_script.specs.declared.job.Stmt.TheOpen.{Stmt-F}
@@ -32,6 +33,11 @@ statements = stmt.Agree here (codes "c") (codes "a") (pos 0) ∷ stmt.Print here
 abbrev at_spot : EventKind → Event
 at_spot kind = record { spot = here; kind = kind }
 
+abbrev kinds : List EventKind
+kinds =
+    event.Rest (pos 0) ∷ event.Rest (pos 1) ∷ event.Deliver (pos 0) (pos 1) ∷ event.Deliver (pos 1) (pos 0) ∷ event.Rest (pos 0) ∷ event.Rest (pos 1)
+    ∷ event.Kill (pos 0) ∷ []
+
 abbrev pub job : Job
 job = record {
   ranks = pos 2;
@@ -44,7 +50,7 @@ job = record {
   names = known.names;
   callbacks = [];
   body = statements;
-  events = map at_spot events;
+  events = map at_spot kinds;
 }
 
 creates_none : created_in statements ≡ []

@@ -7,8 +7,7 @@ use Rattle.fx_check.specs.Work.{bound_with}
 use Rattle.fx_comm.specs.Seats.{Seat, seat, seats_from}
 use Rattle.fx_item.specs.declared.item.Item.{Item}
 use Rattle.fx_link.specs.declared.slot.Slot.TheVariants as slot
-use Rattle.fx_script.specs.declared.job.EventKind.{EventKind}
-use Rattle.fx_script.specs.declared.job.EventKind.TheVariants as event
+use Rattle.fx_fleet.specs.Rounds.{Moment, Rest, Deliver, Kill}
 use Rattle.fx_walk.specs.Walk.{Meaning}
 use Rattle.fx_machine.specs.Setup.{Setup}
 use Rattle.fx_fleet.specs.Rounds.{journal}
@@ -32,8 +31,8 @@ body =
 abbrev pub setup : Setup
 setup = row_setup 2 0 known body
 
-abbrev pub events : List EventKind
-events = (event.Rest (pos 0) ∷ event.Rest (pos 1) ∷ event.Deliver (pos 0) (pos 1) ∷ event.Deliver (pos 1) (pos 0) ∷ event.Rest (pos 0) ∷ event.Rest (pos 1) ∷ event.Kill (pos 0) ∷ [])
+abbrev pub events : List Moment
+events = (Rest 0 ∷ Rest 1 ∷ Deliver 0 1 ∷ Deliver 1 0 ∷ Rest 0 ∷ Rest 1 ∷ Kill 0 ∷ [])
 
 abbrev pub items : List Item
 items =

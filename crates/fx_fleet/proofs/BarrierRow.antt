@@ -7,7 +7,7 @@ use Rattle.fx_check.specs.Work.{bound_with}
 use Rattle.fx_comm.specs.Seats.{Seat, seat, seats_from}
 use Rattle.fx_item.specs.declared.item.Item.{Item}
 use Rattle.fx_link.specs.declared.slot.Slot.TheVariants as slot
-use Rattle.fx_script.specs.declared.job.EventKind.{EventKind}
+use Rattle.fx_fleet.specs.Rounds.{Moment}
 use Rattle.fx_walk.specs.Walk.{Meaning}
 use Rattle.fx_machine.specs.Setup.{Setup}
 use Rattle.fx_fleet.specs.Rounds.{journal}
@@ -28,7 +28,7 @@ body =
 abbrev pub setup : Setup
 setup = row_setup 2 0 known body
 
-abbrev pub events : List EventKind
+abbrev pub events : List Moment
 events = []
 
 abbrev pub items : List Item

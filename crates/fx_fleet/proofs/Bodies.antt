@@ -107,7 +107,7 @@ setup_of ranks spares f body = record {
   member_len = attached_len f;
   blank = blank f;
   callbacks = callbacks_at_init f;
-  start = body_start f;
+  body_state = body_start f;
   body = body;
 }
 
@@ -128,7 +128,7 @@ one_callback f name meanings other rank size before = []
 
 -- a row with one callback, which changes nothing
 abbrev pub with_callback : Facts → List ℕ → List Meaning → Setup → Setup
-with_callback f name meanings s = record s { callbacks = one_callback f name meanings; start = at_start }
+with_callback f name meanings s = record s { callbacks = one_callback f name meanings; body_state = at_start }
   where
     at_start : Role → (rank size : ℕ) → State → State
     at_start role rank size before = at_init f role before

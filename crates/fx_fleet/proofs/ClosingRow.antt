@@ -10,8 +10,7 @@ use Rattle.fx_item.specs.declared.answer.Answer.TheVariants as answer
 use Rattle.fx_item.specs.declared.answer.Refusable.TheVariants as refusable
 use Rattle.fx_item.specs.declared.item.Item.{Item}
 use Rattle.fx_link.specs.declared.slot.Slot.TheVariants as slot
-use Rattle.fx_script.specs.declared.job.EventKind.{EventKind}
-use Rattle.fx_script.specs.declared.job.EventKind.TheVariants as event
+use Rattle.fx_fleet.specs.Rounds.{Moment, Kill, Run}
 use Rattle.fx_walk.specs.Walk.{Meaning}
 use Rattle.fx_machine.specs.Setup.{Setup}
 use Rattle.fx_fleet.specs.Rounds.{journal}
@@ -35,8 +34,8 @@ body =
 abbrev pub setup : Setup
 setup = row_setup 3 0 known body
 
-abbrev pub events : List EventKind
-events = (event.Run (pos 3) ∷ event.Kill (pos 1) ∷ [])
+abbrev pub events : List Moment
+events = (Run 3 ∷ Kill 1 ∷ [])
 
 abbrev pub items : List Item
 items =

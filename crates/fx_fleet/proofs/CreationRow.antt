@@ -10,8 +10,7 @@ use Rattle.fx_item.specs.declared.answer.Answer.TheVariants as answer
 use Rattle.fx_item.specs.declared.answer.Refusable.TheVariants as refusable
 use Rattle.fx_item.specs.declared.item.Item.{Item}
 use Rattle.fx_link.specs.declared.slot.Slot.TheVariants as slot
-use Rattle.fx_script.specs.declared.job.EventKind.{EventKind}
-use Rattle.fx_script.specs.declared.job.EventKind.TheVariants as event
+use Rattle.fx_fleet.specs.Rounds.{Moment, Kill, Run}
 use Rattle.fx_store.specs.Packed.{elements_in, run_in, runs_in, section_in, sections_in, text_in}
 use Rattle.fx_walk.specs.Walk.{Meaning}
 use Rattle.fx_machine.specs.Setup.{Setup}
@@ -37,8 +36,8 @@ body =
 abbrev pub setup : Setup
 setup = row_setup 2 1 known body
 
-abbrev pub events : List EventKind
-events = (event.Run (pos 5) ∷ event.Kill (pos 0) ∷ [])
+abbrev pub events : List Moment
+events = (Run 5 ∷ Kill 0 ∷ [])
 
 abbrev pub items : List Item
 items =

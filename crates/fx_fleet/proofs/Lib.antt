@@ -8,6 +8,7 @@ mod NumbersRow
 mod ClosingRow
 mod CreationRow
 mod RefusalsRow
+mod RevokedRow
 mod Ties
 mod BarrierJob
 mod AgreementJob

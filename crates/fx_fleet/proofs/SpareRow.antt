@@ -7,8 +7,7 @@ use Rattle.fx_check.specs.Work.{bound_with}
 use Rattle.fx_comm.specs.Seats.{Seat, seat, seats_from}
 use Rattle.fx_item.specs.declared.item.Item.{Item}
 use Rattle.fx_link.specs.declared.slot.Slot.TheVariants as slot
-use Rattle.fx_script.specs.declared.job.EventKind.{EventKind}
-use Rattle.fx_script.specs.declared.job.EventKind.TheVariants as event
+use Rattle.fx_fleet.specs.Rounds.{Moment, Kill, Run}
 use Rattle.fx_walk.specs.Walk.{Meaning}
 use Rattle.fx_machine.specs.Setup.{Setup}
 use Rattle.fx_fleet.specs.Rounds.{journal}
@@ -32,8 +31,8 @@ body =
 abbrev pub setup : Setup
 setup = with_callback known (codes "n") (prints known (codes "a") ∷ []) (row_setup 2 1 known body)
 
-abbrev pub events : List EventKind
-events = (event.Run (pos 1) ∷ event.Kill (pos 0) ∷ [])
+abbrev pub events : List Moment
+events = (Run 1 ∷ Kill 0 ∷ [])
 
 abbrev pub items : List Item
 items =

@@ -4,7 +4,7 @@ use Rattle.fx_ballot.specs.World.{put}
 use Rattle.fx_item.specs.declared.item.Item.{Item}
 use Rattle.fx_item.specs.declared.item.Item.TheVariants as item
 use Rattle.fx_machine.specs.Messages.{message_of}
-use Rattle.fx_machine.specs.Nodes.{Node, Act, Stage, Over, first_node, receives, is_told}
+use Rattle.fx_machine.specs.Nodes.{Node, Act, has_ended, first_node, receives, is_told}
 use Rattle.fx_machine.specs.Numbers.{proc}
 use Rattle.fx_machine.specs.Setup.{Setup}
 use Rattle.fx_machine.specs.Steps.{next}
@@ -21,13 +21,9 @@ pub record World : Type 0 where
 abbrev pub first_world : Setup → World
 first_world s = record { node = first_node s; killed = λ p. false; link = λ a b. []; items = [] }
 
-abbrev pub is_over : Stage → Bool
-is_over Over = true
-is_over other = false
-
 -- the process lives and hasn't ended
 abbrev pub up : Setup → World → ℕ → Bool
-up s w p = nat_lt p s.procs && (not (w.killed p) && not (is_over (w.node p).stage))
+up s w p = nat_lt p s.procs && (not (w.killed p) && not (has_ended (w.node p)))
 
 -- the links once that from a to b has these texts
 abbrev pub with_link : ℕ → ℕ → List Text → (ℕ → ℕ → List Text) → ℕ → ℕ → List Text
@@ -44,7 +40,7 @@ sent_to q (x ∷ xs) = if x.0 == q then x.1 ∷ sent_to q xs else sent_to q xs
 abbrev pub send_item : ℕ → ℕ × Text → Item
 send_item p x = item.Send (proc p) (proc x.0) (message_of x.1)
 
--- Process p does what a step is. What it sends to one that was killed or has ended vanishes, and is written all the same.
+-- Process p takes this action. What it sends to one that was killed or has ended vanishes, and is written all the same.
 abbrev pub does : Setup → ℕ → Act → World → World
 does s p act w = record {
   node = put w.node p act.node;
@@ -106,7 +102,7 @@ learns p q w = record {
 
 -- p was killed, and q is up and wasn't told of it
 abbrev pub may_learn : Setup → ℕ → ℕ → World → Bool
-may_learn s p q w = w.killed p && (up s w q && not ((w.node q).told p))
+may_learn s p q w = w.killed p && (up s w q && not ((w.node q).lost p))
 
 -- a notice of p to q, where it may be
 abbrev pub notices : Setup → ℕ → ℕ → World → World

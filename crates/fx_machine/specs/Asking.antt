@@ -1,7 +1,8 @@
 -- Outward statements: each is refused, answered at once, or enters its call.
-use Rattle.std.specs.Prelude.{ℕ, suc, ℤ, if◌then◌else◌, ◌==◌, List, [], ◌∷◌, Option, Some, None, option_map}
-use Rattle.std.specs.FinMap as finite
+use Rattle.std.specs.Prelude.{ℕ, suc, ℤ, if◌then◌else◌, ◌==◌, List, [], ◌∷◌, Option, Some, None, unwrap_or}
 use Rattle.fx_base.specs.declared.names.GroupId.{GroupId}
+use Rattle.fx_base.specs.declared.names.Op.{Op}
+use Rattle.fx_base.specs.declared.names.Stamp.{Stamp}
 use Rattle.fx_ballot.specs.Turn.{Voting}
 use Rattle.fx_item.specs.declared.item.Item.{Item}
 use Rattle.fx_item.specs.declared.item.Item.TheVariants as item
@@ -14,7 +15,7 @@ use Rattle.fx_machine.specs.Closing.{shares_for}
 use Rattle.fx_machine.specs.Gathering.{target_of}
 use Rattle.fx_machine.specs.Groups.{committing, known_of}
 use Rattle.fx_machine.specs.Local.{Refusal, refusal_of, is_refused, found_at, attaches, stores, commits, restores}
-use Rattle.fx_machine.specs.Nodes.{Node, Act, Core, Gathering, Sharing, Telling, Balloting, Calling, members, size, my_place, with_group, to_places, telling}
+use Rattle.fx_machine.specs.Nodes.{Node, Act, Core, Gathering, Sharing, Telling, Balloting, Calling, members, size, my_place, with_group, to_places, saying}
 use Rattle.fx_machine.specs.Numbers.{proc, epoch_no, call_no}
 use Rattle.fx_machine.specs.Reading.{OfCall, vote_text}
 use Rattle.fx_machine.specs.Setup.{Setup}
@@ -32,7 +33,14 @@ enters n core entering meant = record { node = entered core n; sends = to_places
 
 -- a call that begins with its ballot
 abbrev pub enters_voting : Node → Item → Slot → Act
-enters_voting n entering vote = telling (members n) (vote_text (OfCall n.epoch (suc n.calls)) vote) (entering ∷ []) (entered (Balloting Voting) n)
+enters_voting n entering vote = saying (members n) (vote_text (OfCall n.epoch (suc n.calls)) vote) (entering ∷ []) (entered (Balloting Voting) n)
+
+-- a flag is the vote
+abbrev pub enters_agreement : Node → ℤ → Act
+enters_agreement n flag = enters_voting n (item.Agree (proc n.me) (epoch_no n.epoch) (call_no (suc n.calls)) flag) (slot.Flag flag)
+
+abbrev pub enters_deletion : Node → GroupId → Stamp → Act
+enters_deletion n g stamp = enters_voting n (item.Drop (proc n.me) (epoch_no n.epoch) (call_no (suc n.calls)) g stamp) slot.Yes
 
 -- a part of the next call
 abbrev pub part : Node → List ℤ → Text
@@ -42,8 +50,8 @@ abbrev pub enters_barrier : Node → Act
 enters_barrier n = enters n Gathering (item.Barrier (proc n.me) (epoch_no n.epoch) (call_no (suc n.calls))) (λ x. part n [] ∷ [])
 
 -- a number goes to all
-abbrev pub enters_gathering_numbers : Node → Item → ℤ → Act
-enters_gathering_numbers n entering own = enters n Gathering entering (λ x. part n (own ∷ []) ∷ [])
+abbrev pub enters_reduction : Node → Op → ℤ → Act
+enters_reduction n op own = enters n Gathering (item.Reduce (proc n.me) (epoch_no n.epoch) (call_no (suc n.calls)) op own) (λ x. part n (own ∷ []) ∷ [])
 
 -- elements go to one place, and an empty part to the others
 abbrev pub enters_shift : Node → ℕ → List ℤ → Act
@@ -69,24 +77,24 @@ enters_closing s n g =
 -- ---- all statements
 
 -- an outward statement that isn't refused
-abbrev pub granted : Setup → Node → (Reply → Walk) → Wanted → Option Act
-granted s n rest wanted.Barrier = Some (enters_barrier n)
-granted s n rest (wanted.Reduce op own) = Some (enters_gathering_numbers n (item.Reduce (proc n.me) (epoch_no n.epoch) (call_no (suc n.calls)) op own) own)
-granted s n rest (wanted.Agree flag) = Some (enters_voting n (item.Agree (proc n.me) (epoch_no n.epoch) (call_no (suc n.calls)) flag) (slot.Flag flag))
-granted s n rest (wanted.Shift by elements) = Some (enters_shift n by elements)
-granted s n rest (wanted.Group g start depth) = Some (enters_creation n g)
-granted s n rest (wanted.Attach g m) = Some (attaches n rest g m)
-granted s n rest (wanted.Store g m elements) = Some (stores n rest g m elements (finite.entries elements))
-granted s n rest (wanted.Commit g) = Some (commits n rest g)
-granted s n rest (wanted.Close g) = Some (enters_closing s (frozen g n) g)
-granted s n rest (wanted.Restore g m stamp) = option_map (restores n rest g m stamp) (found_at (s.member_len g m) m.0 (n.groups g.0) stamp.0)
-granted s n rest (wanted.Delete g stamp) = Some (enters_voting n (item.Drop (proc n.me) (epoch_no n.epoch) (call_no (suc n.calls)) g stamp) slot.Yes)
+abbrev pub granted : Setup → Node → (Reply → Walk) → Wanted → Act
+granted s n rest wanted.Barrier = enters_barrier n
+granted s n rest (wanted.Reduce op own) = enters_reduction n op own
+granted s n rest (wanted.Agree flag) = enters_agreement n flag
+granted s n rest (wanted.Shift by elements) = enters_shift n by elements
+granted s n rest (wanted.Group g start depth) = enters_creation n g
+granted s n rest (wanted.Attach g m) = attaches n rest g m
+granted s n rest (wanted.Store g m piece) = stores n rest g m piece
+granted s n rest (wanted.Commit g) = commits n rest g
+granted s n rest (wanted.Close g) = enters_closing s (frozen g n) g
+granted s n rest (wanted.Restore g m stamp) = restores n rest g m stamp (unwrap_or (found_at (s.member_len g m) m.0 (n.groups g.0) stamp.0) [])
+granted s n rest (wanted.Delete g stamp) = enters_deletion n g stamp
 
 -- the refusal, where there is one
-abbrev pub unless_refused : Node → (Reply → Walk) → Option Refusal → Option Act → Option Act
+abbrev pub unless_refused : Node → (Reply → Walk) → Option Refusal → Act → Act
 unless_refused n rest None act = act
-unless_refused n rest (Some refusal) act = Some (is_refused n rest refusal)
+unless_refused n rest (Some refusal) act = is_refused n rest refusal
 
 -- the action of an outward statement
-abbrev pub asked : Setup → Node → (Reply → Walk) → Wanted → Option Act
+abbrev pub asked : Setup → Node → (Reply → Walk) → Wanted → Act
 asked s n rest w = unless_refused n rest (refusal_of s n w) (granted s n rest w)

@@ -12,7 +12,7 @@ use Rattle.fx_item.specs.declared.item.Item.TheVariants as item
 use Rattle.fx_link.specs.declared.slot.Slot.{Slot}
 use Rattle.fx_link.specs.declared.slot.Slot.TheVariants as slot
 use Rattle.fx_machine.specs.Groups.{discarding, uncreated}
-use Rattle.fx_machine.specs.Nodes.{Node, Act, Stage, Joining, Arrived, Over, members, size, silently, writing, telling}
+use Rattle.fx_machine.specs.Nodes.{Node, Act, Stage, Joining, Arrived, Over, members, size, silently, writing, saying}
 use Rattle.fx_machine.specs.Numbers.{proc, epoch_no}
 use Rattle.fx_machine.specs.Reading.{Ballot, vote_text, estimate_text, is_join, next_ballot, turn_in}
 use Rattle.fx_machine.specs.Setup.{Setup}
@@ -23,7 +23,7 @@ moves n at phase = silently (record n { stage = at phase })
 
 -- it goes on in the ballot, and says the estimate of its own round to all other members
 abbrev pub speaks : Ballot → Node → (Phase → Stage) → Phase → List Slot → Act
-speaks b n at phase slots = telling b.members (estimate_text b.about (seat_of b.members n.me) slots) [] (record n { stage = at phase })
+speaks b n at phase slots = saying b.members (estimate_text b.about (seat_of b.members n.me) slots) [] (record n { stage = at phase })
 
 -- the action of a turn, where it is one: given are how a stage holds a phase, and what a decision does
 abbrev pub turned : Ballot → Node → (Phase → Stage) → (List Slot → Option Act) → Turn → Option Act
@@ -44,7 +44,7 @@ in_ballot b n at decides phase = turned b n at decides (turn_in b n phase)
 -- A join gives up what isn't closed, and votes in the ballot of the next epoch.
 abbrev pub joined : Slot → Node → Act
 joined kind n =
-    telling n.present (vote_text (next_ballot n).about kind) (item.Join (proc n.me) (epoch_no (suc n.epoch)) kind ∷ [])
+    saying n.present (vote_text (next_ballot n).about kind) (item.Join (proc n.me) (epoch_no (suc n.epoch)) kind ∷ [])
     (record n { stage = Joining Voting; groups = λ g. discarding (n.groups g) })
 
 -- no join is enabled in the last epoch that a number of 32 bits counts
@@ -99,6 +99,10 @@ repairs s n = writing (item.Repaired (proc n.me) (epoch_no n.epoch) (size n) (wa
 abbrev pub ends : Node → Act
 ends n = writing (item.Ended (proc n.me) ∷ []) (record n { stage = Over })
 
--- the job ends where all ranks of an epoch came to the end; else the present set repairs the communicator
+-- the job ends where all ranks of an epoch came to the end
+abbrev pub is_end : Node → List Slot → Bool
+is_end n slots = nat_lt 0 n.epoch && all_final n slots
+
+-- where it doesn't, the present set repairs the communicator
 abbrev pub decides_epoch : Setup → Node → List Slot → Act
-decides_epoch s n slots = if nat_lt 0 n.epoch && all_final n slots then ends n else repairs s (arrived (voters (is_join (suc n.epoch)) n.present slots) n)
+decides_epoch s n slots = if is_end n slots then ends n else repairs s (arrived (voters (is_join (suc n.epoch)) n.present slots) n)

@@ -1,5 +1,5 @@
 -- The commit barrier: snapshots go to keepers, and are closed once all places have those of their wards.
-use Rattle.std.specs.Prelude.{ℕ, ℤ, ◌-ℤ◌, pos, Bool, true, false, ◌&&◌, if◌then◌else◌, List, [], ◌∷◌, map, Option, Some, None, is_some}
+use Rattle.std.specs.Prelude.{ℕ, ℤ, ◌-ℤ◌, pos, Bool, if◌then◌else◌, List, [], ◌∷◌, map, Option, Some, None, is_some}
 use Rattle.std.specs.Ordering.{int_eq}
 use Rattle.fx_base.specs.declared.names.GroupId.{GroupId}
 use Rattle.fx_item.specs.declared.item.Item.TheVariants as item
@@ -8,7 +8,7 @@ use Rattle.fx_store.specs.Redundancy.{share_of}
 use Rattle.fx_walk.specs.Walk.{Walk, Reply, Nothing, stamp_at}
 use Rattle.fx_machine.specs.Groups.{Group, bytes_of, stamps_in, next_stamp, closing}
 use Rattle.fx_machine.specs.Nodes.{Node, Act, size, proc_at, my_place, goes_on, with_group, writing}
-use Rattle.fx_machine.specs.Numbers.{proc, epoch_no, call_no}
+use Rattle.fx_machine.specs.Numbers.{proc, epoch_no, call_no, are_alike}
 use Rattle.fx_machine.specs.Packings.{Packing, Snapshot}
 use Rattle.fx_machine.specs.Reading.{first_read, only, share_in}
 use Rattle.fx_machine.specs.Setup.{Setup}
@@ -19,11 +19,9 @@ use Rattle.fx_machine.specs.Waits.{Wait, casts, behind, no_of_absence}
 abbrev pub packed : Packing → List (ℤ × Snapshot) → Packed
 packed packing snapshots = map (λ e. (e.0, packing.pack e.1)) snapshots
 
--- both lists have the same numbers in the same order
-abbrev pub same_numbers : List ℤ → List ℤ → Bool
-same_numbers [] [] = true
-same_numbers (a ∷ more) (b ∷ rest) = int_eq a b && same_numbers more rest
-same_numbers one other = false
+-- the same stamps
+abbrev pub same_stamps : List ℤ → List ℤ → Bool
+same_stamps = are_alike int_eq
 
 -- it keeps a share of the place
 abbrev pub is_ward : Setup → Node → ℕ → Bool
@@ -39,15 +37,15 @@ shares_for s e k n g x = if is_keeper s n x then Share e k (packed s.packing g.t
 
 -- the share that was heard of a place: it has exactly the stamps of one's own tentative snapshots
 abbrev pub share_heard : Node → Group → ℕ → Option Packed
-share_heard n g x = first_read (λ t. only (λ p. same_numbers (stamps_in p) (stamps_in g.tentative)) (share_in n.epoch n.calls t)) (n.kept (proc_at n x))
+share_heard n g x = first_read (λ t. only (λ p. same_stamps (stamps_in p) (stamps_in g.tentative)) (share_in n.epoch n.calls t)) (n.texts (proc_at n x))
 
 -- the wait for the shares of the wards: a no vote of theirs doesn't end it
 abbrev pub share_wait : Setup → Node → Group → Wait
 share_wait s n g = record { places = size n; awaited = is_ward s n; heard = λ x. is_some (share_heard n g x); no = no_of_absence n }
 
 -- the action while shares are awaited
-abbrev pub shares : Setup → Node → Group → Option Act
-shares s n g = behind n (share_wait s n g) (Some (casts n slot.Yes))
+abbrev pub in_sharing : Setup → Node → Group → Option Act
+in_sharing s n g = behind n (share_wait s n g) (Some (casts n slot.Yes))
 
 -- the bytes of a place at a stamp, from what was heard of it; empty ones where there are none
 abbrev pub bytes_heard : Option Packed → ℤ → List ℕ

@@ -5,7 +5,7 @@ use Rattle.std.specs.List.{filter, list_any, last_or}
 use Rattle.std.specs.Ordering.{nat_cmp, int_eq}
 use Rattle.fx_comm.specs.Seats.{Seat}
 use Rattle.fx_store.specs.Store.{newest}
-use Rattle.fx_machine.specs.Packings.{Elements, Snapshot}
+use Rattle.fx_machine.specs.Packings.{Piece, Snapshot}
 use Rattle.fx_machine.specs.Texts.{Packed, Known}
 
 -- the epoch and the communicator of a creation
@@ -14,15 +14,16 @@ pub record Birth : Type 0 where
   pub comm : List Seat
 
 -- What the last creation and the closings since then left: its birth; the shares that are kept for the wards, and the own snapshots,
--- by the same stamps in rising order; and the stamp of the next snapshot, tentative ones not counted.
+-- by the same stamps in rising order; and the first stamp that is free, which no closed snapshot has or had.
 pub record Held : Type 0 where
   pub born : Option Birth
   pub shares : Packed
   pub kept : List (ℤ × Snapshot)
-  pub next : ℤ
+  pub free : ℤ
 
 -- What is held; how many snapshots are kept beside the newest; whether the group was created in this epoch; the members that are
 -- attached; what was stored since the last commit; and what was committed and isn't closed.
+-- Members and indices rise in each snapshot, and stamps in each list.
 pub record Group : Type 0 where
   pub held : Held
   pub depth : ℕ
@@ -33,7 +34,7 @@ pub record Group : Type 0 where
 
 -- nothing is retained, and the next stamp is the start stamp
 abbrev pub empty_held : Option Birth → ℤ → Held
-empty_held born start = record { born = born; shares = []; kept = []; next = start }
+empty_held born start = record { born = born; shares = []; kept = []; free = start }
 
 -- a group that was never created
 abbrev pub untouched : Group
@@ -59,7 +60,7 @@ bytes_of packed stamp = unwrap_or (at_stamp stamp packed) []
 
 -- the stamp of the next snapshot
 abbrev pub next_stamp : Group → ℤ
-next_stamp g = g.held.next +ℤ pos (length g.tentative)
+next_stamp g = g.held.free +ℤ pos (length g.tentative)
 
 -- the retained stamps, in rising order
 abbrev pub retained : Group → List ℤ
@@ -79,13 +80,13 @@ abbrev pub is_attached : ℕ → Group → Bool
 is_attached m g = list_any (λ other. other == m) g.attached
 
 -- the new elements, and the old ones at the indices that those lack
-abbrev pub put_over : (new old : Elements) → Elements
+abbrev pub put_over : (new old : Piece) → Piece
 put_over [] old = old
 put_over (e ∷ new) old = put nat_cmp e.0 e.1 (put_over new old)
 
--- the elements are put over what is pending of the member, which has an entry from then on
-abbrev pub storing : ℕ → Elements → Group → Group
-storing m elements g = record g { pending = put nat_cmp m (put_over elements (unwrap_or (find nat_cmp m g.pending) [])) g.pending }
+-- a piece is put over what is pending of the member, which has an entry from then on
+abbrev pub storing : ℕ → Piece → Group → Group
+storing m piece g = record g { pending = put nat_cmp m (put_over piece (unwrap_or (find nat_cmp m g.pending) [])) g.pending }
 
 -- as many tentative snapshots wait as a commit allows
 abbrev pub is_full : Group → Bool
@@ -101,7 +102,7 @@ closing shares g = record g {
   held = record (g.held) {
     shares = newest (suc g.depth) (g.held.shares ++ shares);
     kept = newest (suc g.depth) (g.held.kept ++ g.tentative);
-    next = next_stamp g;
+    free = next_stamp g;
   };
   tentative = [];
 }
@@ -126,7 +127,7 @@ created_with depth held g = record g { held = held; depth = depth; created = tru
 
 -- what a place tells in a creation
 abbrev pub known_of : Held → Option Known
-known_of held = option_map (λ b. record { created = b.epoch; next = held.next; comm = b.comm; stamps = stamps_in held.kept }) held.born
+known_of held = option_map (λ b. record { created = b.epoch; next = held.free; comm = b.comm; stamps = stamps_in held.kept }) held.born
 
 -- it holds something of a creation
 abbrev pub holds : Group → Bool

@@ -19,7 +19,7 @@ use Rattle.fx_walk.specs.Walk.{Walk, Reply, Nothing, Entries, stamp_at}
 use Rattle.fx_machine.specs.Groups.{Group, at_stamp, is_attached, is_full, next_stamp, attaching, storing, committing}
 use Rattle.fx_machine.specs.Nodes.{Node, Act, goes_on, with_group, writing}
 use Rattle.fx_machine.specs.Numbers.{proc, epoch_no}
-use Rattle.fx_machine.specs.Packings.{Elements, Snapshot}
+use Rattle.fx_machine.specs.Packings.{Piece, Snapshot}
 use Rattle.fx_machine.specs.Reading.{only}
 use Rattle.fx_machine.specs.Setup.{Setup}
 
@@ -30,8 +30,8 @@ abbrev pub snapshot_at : Group → ℤ → Option Snapshot
 snapshot_at g stamp = at_stamp stamp g.held.kept
 
 -- what a retained snapshot has of a member, where all its indices are inside an array of so many elements
-abbrev pub found_at : (len m : ℕ) → Group → ℤ → Option Elements
-found_at len m g stamp = only (λ elements. list_all (λ e. nat_lt e.0 len) elements) (option_and_then (find nat_cmp m) (snapshot_at g stamp))
+abbrev pub found_at : (len m : ℕ) → Group → ℤ → Option Piece
+found_at len m g stamp = only (λ piece. list_all (λ e. nat_lt e.0 len) piece) (option_and_then (find nat_cmp m) (snapshot_at g stamp))
 
 -- ---- what refuses a statement: the first that holds
 
@@ -101,10 +101,10 @@ is_refused n rest r = writing (item.Refused (proc n.me) (epoch_no n.epoch) r.sta
 abbrev pub attaches : Node → (Reply → Walk) → GroupId → MemberId → Act
 attaches n rest g m = writing (item.Attach (proc n.me) (epoch_no n.epoch) g m ∷ []) (goes_on rest Nothing (with_group g.0 (attaching m.0 (n.groups g.0)) n))
 
--- elements of a member are stored; they come as a map, and are kept as a list
-abbrev pub stores : Node → (Reply → Walk) → GroupId → MemberId → Sparse → Elements → Act
-stores n rest g m map elements =
-    writing (item.Store (proc n.me) (epoch_no n.epoch) g m map ∷ []) (goes_on rest Nothing (with_group g.0 (storing m.0 elements (n.groups g.0)) n))
+-- a piece of a member is stored; it comes as a map, and is kept as a list
+abbrev pub stores : Node → (Reply → Walk) → GroupId → MemberId → Sparse → Act
+stores n rest g m piece =
+    writing (item.Store (proc n.me) (epoch_no n.epoch) g m piece ∷ []) (goes_on rest Nothing (with_group g.0 (storing m.0 (finite.entries piece) (n.groups g.0)) n))
 
 -- what is pending is committed
 abbrev pub commits : Node → (Reply → Walk) → GroupId → Act
@@ -112,7 +112,7 @@ commits n rest g =
     writing (item.Commit (proc n.me) (epoch_no n.epoch) g (stamp_at (next_stamp (n.groups g.0))) ∷ [])
     (goes_on rest Nothing (with_group g.0 (committing (n.groups g.0)) n))
 
--- elements that were found are restored
-abbrev pub restores : Node → (Reply → Walk) → GroupId → MemberId → Stamp → Elements → Act
-restores n rest g m stamp elements =
-    writing (item.Restore (proc n.me) (epoch_no n.epoch) g m stamp (finite.from_sorted elements) ∷ []) (goes_on rest (Entries (finite.from_sorted elements)) n)
+-- a piece that was found is restored
+abbrev pub restores : Node → (Reply → Walk) → GroupId → MemberId → Stamp → Piece → Act
+restores n rest g m stamp piece =
+    writing (item.Restore (proc n.me) (epoch_no n.epoch) g m stamp (finite.from_sorted piece) ∷ []) (goes_on rest (Entries (finite.from_sorted piece)) n)

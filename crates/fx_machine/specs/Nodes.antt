@@ -14,6 +14,7 @@ use Rattle.fx_walk.specs.Callbacks.{state_at}
 use Rattle.fx_walk.specs.State.{State}
 use Rattle.fx_walk.specs.Walk.{Walk, Ends, Given, Reply}
 use Rattle.fx_machine.specs.Groups.{Group, untouched, newest_stamp}
+use Rattle.fx_machine.specs.Numbers.{of_each_below}
 use Rattle.fx_machine.specs.Setup.{Setup}
 use Rattle.fx_machine.specs.Texts.{Text}
 
@@ -37,6 +38,10 @@ pub data Stage : Type 0 where
   Failed : Stage
   Over : Stage
 
+abbrev pub is_over : Stage → Bool
+is_over Over = true
+is_over other = false
+
 pub record Node : Type 0 where
   -- its process
   pub me : ℕ
@@ -51,9 +56,10 @@ pub record Node : Type 0 where
   -- what is left of the body
   pub walk : Walk
   pub groups : ℕ → Group
-  -- of whose loss it was told; and what it received of each process, in order. Under itself stand its own votes and estimates
-  pub told : ℕ → Bool
-  pub kept : ℕ → List Text
+  -- of whose loss it was told
+  pub lost : ℕ → Bool
+  -- what it received of each process, in order; under itself its own votes and estimates
+  pub texts : ℕ → List Text
 
 -- what a step does: the node after it, what it sends to whom, and what it writes
 pub record Act : Type 0 where
@@ -73,9 +79,13 @@ first_node s p = record {
   stage = Begins;
   walk = Ends s.blank;
   groups = λ g. untouched;
-  told = λ q. false;
-  kept = λ q. [];
+  lost = λ q. false;
+  texts = λ q. [];
 }
+
+-- it has ended: a node without an action that hasn't is quiet
+abbrev pub has_ended : Node → Bool
+has_ended n = is_over n.stage
 
 -- ---- places
 
@@ -110,7 +120,7 @@ state_of n = state_at (stop_of n.walk [])
 
 -- the newest stamps of the eight groups
 abbrev pub latest : Node → List ℤ
-latest n = map (λ g. newest_stamp (n.groups g)) (0 ∷ 1 ∷ 2 ∷ 3 ∷ 4 ∷ 5 ∷ 6 ∷ 7 ∷ [])
+latest n = of_each_below 8 (λ g. newest_stamp (n.groups g))
 
 -- the walk goes on behind an outward statement with what that is given
 abbrev pub goes_on : (Reply → Walk) → Given → Node → Node
@@ -124,7 +134,7 @@ with_group g group n = record n { groups = put n.groups g group }
 
 -- its own vote or estimate counts as heard
 abbrev pub keeping : Text → Node → Node
-keeping t n = record n { kept = put n.kept n.me (n.kept n.me ++ t ∷ []) }
+keeping t n = record n { texts = put n.texts n.me (n.texts n.me ++ t ∷ []) }
 
 -- a text to all of them but itself, in their order
 abbrev pub to_others : ℕ → List ℕ → Text → List (ℕ × Text)
@@ -143,15 +153,15 @@ abbrev pub writing : List Item → Node → Act
 writing items n = record { node = n; sends = []; items = items }
 
 -- a step that says its vote or estimate to all members of a ballot
-abbrev pub telling : List ℕ → Text → List Item → Node → Act
-telling all t items n = record { node = keeping t n; sends = to_others n.me all t; items = items }
+abbrev pub saying : List ℕ → Text → List Item → Node → Act
+saying all t items n = record { node = keeping t n; sends = to_others n.me all t; items = items }
 
 -- ---- what comes in
 
 -- a text comes from a process; none is taken from oneself
 abbrev pub receives : ℕ → Text → Node → Node
-receives from t n = record n { kept = if from == n.me then n.kept else put n.kept from (n.kept from ++ t ∷ []) }
+receives from t n = record n { texts = if from == n.me then n.texts else put n.texts from (n.texts from ++ t ∷ []) }
 
 -- it is told that a process is lost
 abbrev pub is_told : ℕ → Node → Node
-is_told q n = record n { told = put n.told q true }
+is_told q n = record n { lost = put n.lost q true }

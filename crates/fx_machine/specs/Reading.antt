@@ -1,12 +1,12 @@
 -- What a node reads among the texts that it keeps: of those that fit the first one. So what it knows in a ballot or a call is a function
 -- of what it keeps and of whose loss it was told.
-use Rattle.std.specs.Prelude.{ℕ, suc, ℤ, Bool, true, false, not, ◌&&◌, ◌||◌, ◌==◌, List, [], ◌∷◌, length, slice_get, Option, Some, None, is_some}
+use Rattle.std.specs.Prelude.{ℕ, suc, ℤ, Bool, true, false, not, ◌&&◌, ◌||◌, ◌==◌, nat_lt, nat_le, List, [], ◌∷◌, length, slice_get, Option, Some, None, is_some}
 use Rattle.std.specs.List.{list_all}
 use Rattle.std.specs.Ordering.{int_eq}
 use Rattle.fx_ballot.specs.declared.heard.Heard.{Heard}
 use Rattle.fx_ballot.specs.Names.{seat_at, seat_of, has}
 use Rattle.fx_ballot.specs.Turn.{Phase, Turn, turn}
-use Rattle.fx_check.specs.Facts.{or_first}
+use Rattle.std.specs.Option.{option_or}
 use Rattle.fx_link.specs.declared.slot.Slot.{Slot}
 use Rattle.fx_link.specs.declared.slot.Slot.TheVariants as slot
 use Rattle.fx_machine.specs.Nodes.{Node}
@@ -27,7 +27,7 @@ only test (Some x) = given_that (test x) x
 -- of texts the first that can be read
 abbrev pub first_read : {X : Type 0} → (Text → Option X) → List Text → Option X
 first_read read [] = None
-first_read read (t ∷ ts) = or_first (read t) (first_read read ts)
+first_read read (t ∷ ts) = option_or (read t) (first_read read ts)
 
 -- the values of a part in this call
 abbrev pub part_in : (epoch call : ℕ) → Text → Option (List ℤ)
@@ -89,7 +89,7 @@ estimate_in (OfEpoch e) r (Jest d q slots) = given_that ((d == e) && (q == r)) s
 estimate_in (OfCall e k) r (Est d j q slots) = given_that ((d == e) && ((j == k) && (q == r))) slots
 estimate_in about r other = None
 
--- members leave for the next epoch out of calls alone
+-- who left counts as left in the ballot of a call alone
 abbrev pub is_of_call : About → Bool
 is_of_call (OfEpoch e) = false
 is_of_call (OfCall e k) = true
@@ -110,7 +110,7 @@ next_ballot n = record { about = OfEpoch (suc n.epoch); members = n.present; is_
 
 -- the vote of q that was heard; one's own counts as it is
 abbrev pub vote_of : Ballot → Node → ℕ → Option Slot
-vote_of b n q = first_read (λ t. only (λ x. (q == n.me) || b.is_vote x) (vote_in b.about t)) (n.kept q)
+vote_of b n q = first_read (λ t. only (λ x. (q == n.me) || b.is_vote x) (vote_in b.about t)) (n.texts q)
 
 -- a present process has left once its join of the next epoch came
 abbrev pub has_left : Node → ℕ → Bool
@@ -157,14 +157,32 @@ fits b n slots = (length slots == length b.members) && (list_all (may_stand b) s
 
 -- the estimate of q that was heard, of the round of its seat; one's own counts as it is
 abbrev pub estimate_of : Ballot → Node → ℕ → Option (List Slot)
-estimate_of b n q = first_read (λ t. only (λ slots. (q == n.me) || fits b n slots) (estimate_in b.about (seat_of b.members q) t)) (n.kept q)
+estimate_of b n q = first_read (λ t. only (λ slots. (q == n.me) || fits b n slots) (estimate_in b.about (seat_of b.members q) t)) (n.texts q)
 
 -- ---- turns
 
 -- what it knows of a process in a ballot
 abbrev pub seen : Ballot → Node → ℕ → Heard
-seen b n q = record { vote = vote_of b n q; estimate = estimate_of b n q; lost = n.told q; left = is_of_call b.about && has_left n q }
+seen b n q = record { vote = vote_of b n q; estimate = estimate_of b n q; lost = n.lost q; left = is_of_call b.about && has_left n q }
 
 -- its turn in a phase of a ballot
 abbrev pub turn_in : Ballot → Node → Phase → Turn
 turn_in b n phase = turn (length b.members) (seat_of b.members n.me) (λ k. seen b n (seat_at b.members k)) phase
+
+-- ---- what is over
+
+-- a call that is over
+abbrev pub is_past_call : Node → (epoch call : ℕ) → Bool
+is_past_call n e k = nat_lt e n.epoch || ((e == n.epoch) && nat_lt k n.calls)
+
+-- a text of a ballot or of a call that is over: no later action reads it, so a node may forget it
+abbrev pub is_past : Node → Text → Bool
+is_past n (Join e kind) = nat_le e n.epoch
+is_past n (Jest e r slots) = nat_le e n.epoch
+is_past n (Part e k values) = is_past_call n e k
+is_past n (Vote e k x) = is_past_call n e k
+is_past n (Est e k r slots) = is_past_call n e k
+is_past n (Share e k packed) = is_past_call n e k
+is_past n (Tell e k known) = is_past_call n e k
+is_past n (Help e k packed) = is_past_call n e k
+is_past n (Give e k packed) = is_past_call n e k

@@ -22,6 +22,6 @@ pub record Setup : Type 0 where
   pub blank : State
   -- the callbacks that run as the body begins, by role, rank, size, and the state before; and the state that the body begins in
   pub callbacks : Role → (rank size : ℕ) → State → List Called
-  pub start : Role → (rank size : ℕ) → State → State
+  pub body_state : Role → (rank size : ℕ) → State → State
   -- the walk of the body
   pub body : View → State → Walk

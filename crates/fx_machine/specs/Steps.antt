@@ -11,7 +11,7 @@ use Rattle.fx_walk.specs.declared.printed.Printed.{Printed}
 use Rattle.fx_walk.specs.Walk.{Walk, Ends, Passes, Prints, Asks}
 use Rattle.fx_machine.specs.Asking.{asked}
 use Rattle.fx_machine.specs.Ballots.{in_ballot, joins, decides_epoch, warns}
-use Rattle.fx_machine.specs.Calls.{calls}
+use Rattle.fx_machine.specs.Calls.{in_asked_call}
 use Rattle.fx_machine.specs.Nodes.{Node, Act, Stage, Begins, Joining, Arrived, Walking, Calling, Failed, Over, members, size, ident_at, my_place, state_of, silently, writing}
 use Rattle.fx_machine.specs.Numbers.{proc, epoch_no}
 use Rattle.fx_machine.specs.Reading.{next_ballot, has_left}
@@ -35,7 +35,7 @@ init_item s n = item.Init (proc n.me) (epoch_no n.epoch) n.role (record { 0 = id
 abbrev pub begun : Setup → Node → Node
 begun s n = record n {
   stage = Walking;
-  walk = s.body (view_at_init n.role (my_place n) (size n)) (s.start n.role (my_place n) (size n) (state_of n));
+  walk = s.body (view_at_init n.role (my_place n) (size n)) (s.body_state n.role (my_place n) (size n) (state_of n));
 }
 
 -- it returns from `Init`, its callbacks before
@@ -44,11 +44,11 @@ inits s n = writing (flat_map (callback_items n) (s.callbacks n.role (my_place n
 
 -- a spare joins where another joined, or a process of the communicator is lost
 abbrev pub may_help_out : Node → Bool
-may_help_out n = list_any (has_left n) n.present || list_any n.told (members n)
+may_help_out n = list_any (has_left n) n.present || list_any n.lost (members n)
 
 -- behind a repair: `Init`; or, as a spare, to wait for the next repair
-abbrev pub begins : Setup → Node → Option Act
-begins s n = if has_place n.comm n.me then Some (inits s n) else (if may_help_out n then joins slot.Spare n else None)
+abbrev pub in_arrival : Setup → Node → Option Act
+in_arrival s n = if has_place n.comm n.me then Some (inits s n) else (if may_help_out n then joins slot.Spare n else None)
 
 -- ---- the walk
 
@@ -61,11 +61,11 @@ abbrev pub prints : Printed → Walk → Node → Act
 prints printed rest n = writing (print_item n printed ∷ []) (record n { walk = rest })
 
 -- the action of the walk
-abbrev pub walks : Setup → Node → Walk → Option Act
-walks s n (Ends state) = joins slot.Final n
-walks s n (Passes rest) = Some (passes_on rest n)
-walks s n (Prints printed rest) = Some (prints printed rest n)
-walks s n (Asks place wanted state rest) = asked s n rest wanted
+abbrev pub in_walk : Setup → Node → Walk → Option Act
+in_walk s n (Ends state) = joins slot.Final n
+in_walk s n (Passes rest) = Some (passes_on rest n)
+in_walk s n (Prints printed rest) = Some (prints printed rest n)
+in_walk s n (Asks place wanted state rest) = Some (asked s n rest wanted)
 
 -- ---- the step
 
@@ -73,9 +73,9 @@ walks s n (Asks place wanted state rest) = asked s n rest wanted
 abbrev pub next_at : Setup → Node → Stage → Option Act
 next_at s n Begins = joins slot.Start n
 next_at s n (Joining phase) = in_ballot (next_ballot n) n Joining (λ slots. Some (decides_epoch s n slots)) phase
-next_at s n Arrived = begins s n
-next_at s n Walking = walks s n n.walk
-next_at s n (Calling core) = calls s n core n.walk
+next_at s n Arrived = in_arrival s n
+next_at s n Walking = in_walk s n n.walk
+next_at s n (Calling core) = in_asked_call s n core n.walk
 next_at s n Failed = joins slot.Error n
 next_at s n Over = None
 

@@ -1,7 +1,8 @@
 -- What stands in the way of a call: waits for other places, and the votes and errors that end them.
 use Rattle.std.specs.Prelude.{ℕ, Bool, true, false, not, ◌&&◌, ◌||◌, if◌then◌else◌, List, [], ◌∷◌, Option, Some, None, is_some, option_map}
+use Rattle.std.specs.List.{list_all}
 use Rattle.fx_ballot.specs.Turn.{Voting}
-use Rattle.fx_check.specs.Facts.{or_first}
+use Rattle.std.specs.Option.{option_or}
 use Rattle.fx_comm.specs.Seats.{Seat, has_place}
 use Rattle.fx_item.specs.declared.item.Item.TheVariants as item
 use Rattle.fx_link.specs.declared.slot.Slot.{Slot}
@@ -9,7 +10,7 @@ use Rattle.fx_link.specs.declared.slot.Slot.TheVariants as slot
 use Rattle.fx_store.specs.Redundancy.{each_below}
 use Rattle.fx_walk.specs.declared.wanted.Wanted.{Wanted}
 use Rattle.fx_walk.specs.declared.wanted.Wanted.TheVariants as wanted
-use Rattle.fx_machine.specs.Nodes.{Node, Act, Calling, Balloting, Failed, members, proc_at, writing, telling}
+use Rattle.fx_machine.specs.Nodes.{Node, Act, Calling, Balloting, Failed, members, proc_at, writing, saying}
 use Rattle.fx_machine.specs.Numbers.{proc, epoch_no, call_no, first_below}
 use Rattle.fx_machine.specs.Reading.{Ballot, OfCall, vote_text, vote_of, has_left, only}
 
@@ -50,19 +51,19 @@ call_ballot n wanted = record { about = OfCall n.epoch n.calls; members = member
 
 -- it votes in that ballot
 abbrev pub casts : Node → Slot → Act
-casts n vote = telling (members n) (vote_text (OfCall n.epoch n.calls) vote) [] (record n { stage = Calling (Balloting Voting) })
+casts n vote = saying (members n) (vote_text (OfCall n.epoch n.calls) vote) [] (record n { stage = Calling (Balloting Voting) })
 
 -- ---- waits
 
 -- the no of a place of which nothing comes any more: it is lost, else it left
 abbrev pub no_of_absence : Node → ℕ → Option Slot
 no_of_absence n x =
-    if n.told (proc_at n x) then Some (slot.NoLost (proc (proc_at n x)))
+    if n.lost (proc_at n x) then Some (slot.NoLost (proc (proc_at n x)))
     else (if has_left n (proc_at n x) then Some (slot.NoLeft (proc (proc_at n x))) else None)
 
 -- the no of a place in a creation: its own where it voted so, else that of its absence
 abbrev pub no_of : Node → Wanted → ℕ → Option Slot
-no_of n wanted x = or_first (only (is_no n.comm) (vote_of (call_ballot n wanted) n (proc_at n x))) (no_of_absence n x)
+no_of n wanted x = option_or (only (is_no n.comm) (vote_of (call_ballot n wanted) n (proc_at n x))) (no_of_absence n x)
 
 -- a wait of a call among so many places: for whom, who was heard, and the no that ends it for one that wasn't
 pub record Wait : Type 0 where
@@ -72,48 +73,52 @@ pub record Wait : Type 0 where
   pub no : ℕ → Option Slot
 
 -- each awaited place was heard, or has its no
-abbrev pub has_ended : Wait → Bool
-has_ended w = each_below w.places (λ x. not (w.awaited x) || (w.heard x || is_some (w.no x)))
+abbrev pub is_settled : Wait → Bool
+is_settled w = each_below w.places (λ x. not (w.awaited x) || (w.heard x || is_some (w.no x)))
 
 -- the first awaited place that wasn't heard
 abbrev pub first_unheard : Wait → Option ℕ
 first_unheard w = first_below w.places (λ x. w.awaited x && not (w.heard x))
 
--- it votes as the first place does that wasn't heard; where all were heard comes what is next
+-- it votes the no of the first place that wasn't heard; where all were heard comes what is next
 abbrev pub unless_unheard : Node → Wait → Option ℕ → Option Act → Option Act
 unless_unheard n w None next = next
 unless_unheard n w (Some x) next = option_map (casts n) (w.no x)
 
 -- behind a wait
 abbrev pub behind : Node → Wait → Option Act → Option Act
-behind n w next = if has_ended w then unless_unheard n w (first_unheard w) next else None
+behind n w next = if is_settled w then unless_unheard n w (first_unheard w) next else None
 
 -- ---- errors
 
 -- why a call didn't do what was asked: a process is lost, or it left
 pub data Error : Type 0 where
-  Lost : (proc : ℕ) → Error
-  Left : (proc : ℕ) → Error
+  ByLoss : (proc : ℕ) → Error
+  ByLeaving : (proc : ℕ) → Error
 
 -- the call fails by a lost process, or is revoked by one that left
 abbrev pub returns_error : Node → Error → Act
-returns_error n (Lost x) = writing (item.Failed (proc n.me) (epoch_no n.epoch) (call_no n.calls) (proc x) ∷ []) (record n { stage = Failed })
-returns_error n (Left x) = writing (item.Revoked (proc n.me) (epoch_no n.epoch) (call_no n.calls) (proc x) ∷ []) (record n { stage = Failed })
+returns_error n (ByLoss x) = writing (item.Failed (proc n.me) (epoch_no n.epoch) (call_no n.calls) (proc x) ∷ []) (record n { stage = Failed })
+returns_error n (ByLeaving x) = writing (item.Revoked (proc n.me) (epoch_no n.epoch) (call_no n.calls) (proc x) ∷ []) (record n { stage = Failed })
 
 -- the error of a slot of process q
 abbrev pub error_in : ℕ → Slot → Option Error
-error_in q slot.Lost = Some (Lost q)
-error_in q slot.Left = Some (Left q)
-error_in q (slot.NoLost x) = Some (Lost x.0)
-error_in q (slot.NoLeft x) = Some (Left x.0)
+error_in q slot.Lost = Some (ByLoss q)
+error_in q slot.Left = Some (ByLeaving q)
+error_in q (slot.NoLost x) = Some (ByLoss x.0)
+error_in q (slot.NoLeft x) = Some (ByLeaving x.0)
 error_in q other = None
 
 -- the error of the first slot that has one, in the order of seats
 abbrev pub first_error : List ℕ → List Slot → Option Error
 first_error [] slots = None
 first_error (q ∷ qs) [] = None
-first_error (q ∷ qs) (x ∷ xs) = or_first (error_in q x) (first_error qs xs)
+first_error (q ∷ qs) (x ∷ xs) = option_or (error_in q x) (first_error qs xs)
 
 -- what says that a member agrees
 abbrev pub is_affirmative : Slot → Bool
 is_affirmative x = is_yes x || (is_flag x || is_finding x)
+
+-- all members agree
+abbrev pub all_agree : List Slot → Bool
+all_agree slots = list_all is_affirmative slots
