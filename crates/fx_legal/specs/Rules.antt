@@ -177,7 +177,7 @@ refusal_of epoch groups stand (wanted.Commit g) =
 refusal_of epoch groups stand (wanted.Close g) = first_that ((not (has_created stand g), answer.NotCreated) ∷ [])
 refusal_of epoch groups stand (wanted.Restore g m t) =
     first_that ((not (has_created stand g), answer.NotCreated) ∷ (not (has_attached stand g m), answer.NotAttached)
-        ∷ (not (has_stamp t (groups g.0).stamps), answer.NoStamp) ∷ (not (is_some (stored_at (groups g.0) (ident_of stand) m t)), answer.NotStored) ∷ [])
+    ∷ (not (has_stamp t (groups g.0).stamps), answer.NoStamp) ∷ (not (is_some (stored_at (groups g.0) (ident_of stand) m t)), answer.NotStored) ∷ [])
 refusal_of epoch groups stand (wanted.Delete g t) =
     first_that ((not (has_created stand g), answer.NotCreated) ∷ (not (has_stamp t (groups g.0).stamps), answer.NoStamp) ∷ [])
 

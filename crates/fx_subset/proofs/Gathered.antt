@@ -155,8 +155,8 @@ all_gathered : (runs : List (ℕ × ℕ)) (indices : set.FinSet nat_cmp) (elemen
     → ((i : ℕ) → finite.get held i ≡ if_chosen (is_covered runs i) (slice_get elements i)) → held ≡ gathered indices elements
 all_gathered runs indices elements held is covered =
     finite.same_map nat_cmp_total finite.nat_cmp-IsAntisymmetric held (gathered indices elements) (λ i.
-        covered i ∙ ap (λ (b : Bool). if_chosen b (slice_get elements i)) (sym (contains-union_of runs i) ∙ ap (λ (s : set.FinSet nat_cmp). set.contains s i) is)
-        ∙ sym (get-gathered indices elements i))
+    covered i ∙ ap (λ (b : Bool). if_chosen b (slice_get elements i)) (sym (contains-union_of runs i) ∙ ap (λ (s : set.FinSet nat_cmp). set.contains s i) is)
+    ∙ sym (get-gathered indices elements i))
 
 -- a map with exactly the elements that the runs cover, if there is one
 pub gathered_if : (runs : List (ℕ × ℕ)) (indices : set.FinSet nat_cmp) (elements : List ℤ) (r : Result (finite.FinMap nat_cmp ℤ) NoMemory) → union_of runs ≡ indices

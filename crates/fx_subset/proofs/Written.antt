@@ -62,7 +62,7 @@ written_more (entry ∷ entries) (suc at) now new within step =
 pub all_written : (held : finite.FinMap nat_cmp ℤ) (olds : List ℤ) → written (finite.entries held) olds ≡ scattered held olds
 all_written held olds =
     same_lists (written (finite.entries held) olds) (scattered held olds) (length-written (finite.entries held) olds ∙ sym (length-laid (finite.get held) 0 olds)) (λ i d within.
-        let inside : i < length olds = rw (length-written (finite.entries held) olds) at within in
-        written_found (finite.entries held) olds i d (finite.entries_sorted held) inside
-        ∙ ap (λ (o : Option ℤ). put_over (get_or olds i d) o) (sym (finite.get-entries held i) ∙ ap (finite.get held) (sym (zero-add i)))
-        ∙ sym (laid_found (finite.get held) 0 olds i d inside))
+    let inside : i < length olds = rw (length-written (finite.entries held) olds) at within in
+    written_found (finite.entries held) olds i d (finite.entries_sorted held) inside
+    ∙ ap (λ (o : Option ℤ). put_over (get_or olds i d) o) (sym (finite.get-entries held i) ∙ ap (finite.get held) (sym (zero-add i)))
+    ∙ sym (laid_found (finite.get held) 0 olds i d inside))
