@@ -15,11 +15,11 @@ use Rattle.fx_fleet.specs.Runs.{rest_bound}
 use Rattle.fx_fleet.proofs.Bodies.{array, counter, facts, prints, agrees, row_setup}
 use Rattle.fx_fleet.proofs.Words.{full, depleted, kill, join, repaired, init, print, agree, value, failed, ended}
 
-abbrev seats01 : List Seat
-seats01 = seat 0 0 ∷ seat 1 1 ∷ []
+abbrev first_comm : List Seat
+first_comm = seat 0 0 ∷ seat 1 1 ∷ []
 
-abbrev seats1 : List Seat
-seats1 = seat 1 1 ∷ []
+abbrev second_comm : List Seat
+second_comm = seat 1 1 ∷ []
 
 abbrev pub known : Facts
 known = facts (array (codes "a") (pos 1) ∷ counter (codes "c") ∷ []) []
@@ -39,12 +39,12 @@ items =
     join 0 1 slot.Start
     ∷ join 1 1 slot.Start
     ∷ kill 0
-    ∷ repaired 1 1 2 full seats01
+    ∷ repaired 1 1 2 full first_comm
     ∷ init 1 1 role.Initial 1 1 2 full
     ∷ agree 1 1 1 (pos 0)
     ∷ failed 1 1 1 0
     ∷ join 1 2 slot.Error
-    ∷ repaired 1 2 1 depleted seats1
+    ∷ repaired 1 2 1 depleted second_comm
     ∷ init 1 2 role.Survivor 1 0 1 depleted
     ∷ agree 1 2 1 (pos 0)
     ∷ value 1 2 1 (pos 0)

@@ -15,8 +15,8 @@ use Rattle.fx_fleet.specs.Runs.{rest_bound}
 use Rattle.fx_fleet.proofs.Bodies.{facts, barriers, row_setup}
 use Rattle.fx_fleet.proofs.Words.{full, join, repaired, init, barrier, passed, ended}
 
-abbrev seats01 : List Seat
-seats01 = seat 0 0 ∷ seat 1 1 ∷ []
+abbrev first_comm : List Seat
+first_comm = seat 0 0 ∷ seat 1 1 ∷ []
 
 abbrev pub known : Facts
 known = facts [] []
@@ -35,10 +35,10 @@ abbrev pub items : List Item
 items =
     join 0 1 slot.Start
     ∷ join 1 1 slot.Start
-    ∷ repaired 1 1 2 full seats01
+    ∷ repaired 1 1 2 full first_comm
     ∷ init 1 1 role.Initial 1 1 2 full
     ∷ barrier 1 1 1
-    ∷ repaired 0 1 2 full seats01
+    ∷ repaired 0 1 2 full first_comm
     ∷ init 0 1 role.Initial 0 0 2 full
     ∷ barrier 0 1 1
     ∷ passed 0 1 1

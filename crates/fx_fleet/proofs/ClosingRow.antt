@@ -18,11 +18,11 @@ use Rattle.fx_fleet.specs.Runs.{rest_bound}
 use Rattle.fx_fleet.proofs.Bodies.{array, attached, facts, groups, members, commit_barriers, restores, row_setup}
 use Rattle.fx_fleet.proofs.Words.{full, depleted, kill, join, repaired, init, attach, refused, group, close, created, closed, failed, ended}
 
-abbrev seats012 : List Seat
-seats012 = seat 0 0 ∷ seat 1 1 ∷ seat 2 2 ∷ []
+abbrev first_comm : List Seat
+first_comm = seat 0 0 ∷ seat 1 1 ∷ seat 2 2 ∷ []
 
-abbrev seats02 : List Seat
-seats02 = seat 0 0 ∷ seat 2 2 ∷ []
+abbrev second_comm : List Seat
+second_comm = seat 0 0 ∷ seat 2 2 ∷ []
 
 abbrev pub known : Facts
 known = facts (array (codes "a") (pos 1) ∷ []) (attached (pos 0) (pos 0) (codes "a") ∷ [])
@@ -42,13 +42,13 @@ items =
     join 0 1 slot.Start
     ∷ join 1 1 slot.Start
     ∷ join 2 1 slot.Start
-    ∷ repaired 2 1 3 full seats012
+    ∷ repaired 2 1 3 full first_comm
     ∷ init 2 1 role.Initial 2 2 3 full
     ∷ group 2 1 1 0
-    ∷ repaired 0 1 3 full seats012
+    ∷ repaired 0 1 3 full first_comm
     ∷ init 0 1 role.Initial 0 0 3 full
     ∷ group 0 1 1 0
-    ∷ repaired 1 1 3 full seats012
+    ∷ repaired 1 1 3 full first_comm
     ∷ init 1 1 role.Initial 1 1 3 full
     ∷ group 1 1 1 0
     ∷ kill 1
@@ -64,10 +64,10 @@ items =
     ∷ join 2 2 slot.Error
     ∷ failed 0 1 2 1
     ∷ join 0 2 slot.Error
-    ∷ repaired 2 2 2 depleted seats02
+    ∷ repaired 2 2 2 depleted second_comm
     ∷ init 2 2 role.Survivor 2 1 2 depleted
     ∷ group 2 2 1 0
-    ∷ repaired 0 2 2 depleted seats02
+    ∷ repaired 0 2 2 depleted second_comm
     ∷ init 0 2 role.Survivor 0 0 2 depleted
     ∷ group 0 2 1 0
     ∷ created 2 2 1 0 how.Kept []

@@ -19,11 +19,11 @@ use Rattle.fx_fleet.specs.Runs.{rest_bound}
 use Rattle.fx_fleet.proofs.Bodies.{array, attached, facts, barriers, groups, members, commit_barriers, restores, row_setup}
 use Rattle.fx_fleet.proofs.Words.{full, kill, join, repaired, init, attach, refused, barrier, group, close, passed, created, closed, failed, ended}
 
-abbrev seats01 : List Seat
-seats01 = seat 0 0 ∷ seat 1 1 ∷ []
+abbrev first_comm : List Seat
+first_comm = seat 0 0 ∷ seat 1 1 ∷ []
 
-abbrev seats0at21 : List Seat
-seats0at21 = seat 0 2 ∷ seat 1 1 ∷ []
+abbrev second_comm : List Seat
+second_comm = seat 0 2 ∷ seat 1 1 ∷ []
 
 abbrev pub known : Facts
 known = facts (array (codes "a") (pos 1) ∷ []) (attached (pos 0) (pos 0) (codes "a") ∷ [])
@@ -44,11 +44,11 @@ items =
     join 0 1 slot.Start
     ∷ join 1 1 slot.Start
     ∷ join 2 1 slot.Start
-    ∷ repaired 2 1 2 full seats01
-    ∷ repaired 0 1 2 full seats01
+    ∷ repaired 2 1 2 full first_comm
+    ∷ repaired 0 1 2 full first_comm
     ∷ init 0 1 role.Initial 0 0 2 full
     ∷ group 0 1 1 0
-    ∷ repaired 1 1 2 full seats01
+    ∷ repaired 1 1 2 full first_comm
     ∷ init 1 1 role.Initial 1 1 2 full
     ∷ group 1 1 1 0
     ∷ created 1 1 1 0 how.Fresh []
@@ -63,10 +63,10 @@ items =
     ∷ failed 1 1 3 0
     ∷ join 1 2 slot.Error
     ∷ join 2 2 slot.Spare
-    ∷ repaired 2 2 2 full seats0at21
+    ∷ repaired 2 2 2 full second_comm
     ∷ init 2 2 role.Recovered 0 0 2 full
     ∷ group 2 2 1 0
-    ∷ repaired 1 2 2 full seats0at21
+    ∷ repaired 1 2 2 full second_comm
     ∷ init 1 2 role.Survivor 1 1 2 full
     ∷ group 1 2 1 0
     ∷ created 1 2 1 0 how.Kept ((pos 5) ∷ [])

@@ -17,8 +17,8 @@ use Rattle.fx_fleet.specs.Runs.{rest_bound}
 use Rattle.fx_fleet.proofs.Bodies.{array, counter, facts, prints, reduces, shifts, lets, row_setup}
 use Rattle.fx_fleet.proofs.Words.{full, join, repaired, init, print, reduce, shift, value, shifted, ended}
 
-abbrev seats012 : List Seat
-seats012 = seat 0 0 ∷ seat 1 1 ∷ seat 2 2 ∷ []
+abbrev first_comm : List Seat
+first_comm = seat 0 0 ∷ seat 1 1 ∷ seat 2 2 ∷ []
 
 abbrev pub known : Facts
 known = facts (array (codes "a") (pos 1) ∷ array (codes "b") (pos 1) ∷ counter (codes "c") ∷ []) []
@@ -39,13 +39,13 @@ items =
     join 0 1 slot.Start
     ∷ join 1 1 slot.Start
     ∷ join 2 1 slot.Start
-    ∷ repaired 2 1 3 full seats012
+    ∷ repaired 2 1 3 full first_comm
     ∷ init 2 1 role.Initial 2 2 3 full
     ∷ reduce 2 1 1 op.Sum (pos 3)
-    ∷ repaired 0 1 3 full seats012
+    ∷ repaired 0 1 3 full first_comm
     ∷ init 0 1 role.Initial 0 0 3 full
     ∷ reduce 0 1 1 op.Sum (pos 1)
-    ∷ repaired 1 1 3 full seats012
+    ∷ repaired 1 1 3 full first_comm
     ∷ init 1 1 role.Initial 1 1 3 full
     ∷ reduce 1 1 1 op.Sum (pos 2)
     ∷ value 1 1 1 (pos 6)

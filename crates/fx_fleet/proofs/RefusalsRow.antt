@@ -19,8 +19,8 @@ use Rattle.fx_fleet.specs.Runs.{rest_bound}
 use Rattle.fx_fleet.proofs.Bodies.{array, attached, facts, groups, members, stores, commits, commit_barriers, restores, drops, row_setup}
 use Rattle.fx_fleet.proofs.Words.{full, join, repaired, init, attach, commit, refused, group, close, created, closed, ended}
 
-abbrev seats0 : List Seat
-seats0 = seat 0 0 ∷ []
+abbrev first_comm : List Seat
+first_comm = seat 0 0 ∷ []
 
 abbrev pub known : Facts
 known = facts (array (codes "a") (pos 1) ∷ []) (attached (pos 0) (pos 0) (codes "a") ∷ [])
@@ -41,7 +41,7 @@ events = []
 abbrev pub items : List Item
 items =
     join 0 1 slot.Start
-    ∷ repaired 0 1 1 full seats0
+    ∷ repaired 0 1 1 full first_comm
     ∷ init 0 1 role.Initial 0 0 1 full
     ∷ refused 0 1 refusable.Member 0 0 (pos 0) answer.NotCreated
     ∷ refused 0 1 refusable.Store 0 0 (pos 0) answer.NotCreated

@@ -15,11 +15,11 @@ use Rattle.fx_fleet.specs.Runs.{rest_bound}
 use Rattle.fx_fleet.proofs.Bodies.{facts, barriers, row_setup}
 use Rattle.fx_fleet.proofs.Words.{full, depleted, kill, join, repaired, init, barrier, passed, failed, revoked, ended}
 
-abbrev seats012 : List Seat
-seats012 = seat 0 0 ∷ seat 1 1 ∷ seat 2 2 ∷ []
+abbrev first_comm : List Seat
+first_comm = seat 0 0 ∷ seat 1 1 ∷ seat 2 2 ∷ []
 
-abbrev seats02 : List Seat
-seats02 = seat 0 0 ∷ seat 2 2 ∷ []
+abbrev second_comm : List Seat
+second_comm = seat 0 0 ∷ seat 2 2 ∷ []
 
 abbrev pub known : Facts
 known = facts [] []
@@ -39,14 +39,14 @@ items =
     join 0 1 slot.Start
     ∷ join 1 1 slot.Start
     ∷ join 2 1 slot.Start
-    ∷ repaired 2 1 3 full seats012
+    ∷ repaired 2 1 3 full first_comm
     ∷ init 2 1 role.Initial 2 2 3 full
     ∷ barrier 2 1 1
-    ∷ repaired 1 1 3 full seats012
+    ∷ repaired 1 1 3 full first_comm
     ∷ init 1 1 role.Initial 1 1 3 full
     ∷ barrier 1 1 1
     ∷ kill 1
-    ∷ repaired 0 1 3 full seats012
+    ∷ repaired 0 1 3 full first_comm
     ∷ init 0 1 role.Initial 0 0 3 full
     ∷ barrier 0 1 1
     ∷ failed 0 1 1 1
@@ -55,10 +55,10 @@ items =
     ∷ barrier 2 1 2
     ∷ revoked 2 1 2 0
     ∷ join 2 2 slot.Error
-    ∷ repaired 2 2 2 depleted seats02
+    ∷ repaired 2 2 2 depleted second_comm
     ∷ init 2 2 role.Survivor 2 1 2 depleted
     ∷ barrier 2 2 1
-    ∷ repaired 0 2 2 depleted seats02
+    ∷ repaired 0 2 2 depleted second_comm
     ∷ init 0 2 role.Survivor 0 0 2 depleted
     ∷ barrier 0 2 1
     ∷ passed 0 2 1

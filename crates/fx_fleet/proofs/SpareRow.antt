@@ -15,11 +15,11 @@ use Rattle.fx_fleet.specs.Runs.{rest_bound}
 use Rattle.fx_fleet.proofs.Bodies.{array, facts, barriers, prints, registers, row_setup, with_callback}
 use Rattle.fx_fleet.proofs.Words.{full, kill, join, repaired, callback, init, print, barrier, passed, failed, ended}
 
-abbrev seats01 : List Seat
-seats01 = seat 0 0 ∷ seat 1 1 ∷ []
+abbrev first_comm : List Seat
+first_comm = seat 0 0 ∷ seat 1 1 ∷ []
 
-abbrev seats0at21 : List Seat
-seats0at21 = seat 0 2 ∷ seat 1 1 ∷ []
+abbrev second_comm : List Seat
+second_comm = seat 0 2 ∷ seat 1 1 ∷ []
 
 abbrev pub known : Facts
 known = facts (array (codes "a") (pos 1) ∷ []) []
@@ -40,17 +40,17 @@ items =
     ∷ join 1 1 slot.Start
     ∷ join 2 1 slot.Start
     ∷ kill 0
-    ∷ repaired 2 1 2 full seats01
+    ∷ repaired 2 1 2 full first_comm
     ∷ join 2 2 slot.Spare
-    ∷ repaired 1 1 2 full seats01
+    ∷ repaired 1 1 2 full first_comm
     ∷ init 1 1 role.Initial 1 1 2 full
     ∷ barrier 1 1 1
     ∷ failed 1 1 1 0
     ∷ join 1 2 slot.Error
-    ∷ repaired 2 2 2 full seats0at21
+    ∷ repaired 2 2 2 full second_comm
     ∷ init 2 2 role.Recovered 0 0 2 full
     ∷ barrier 2 2 1
-    ∷ repaired 1 2 2 full seats0at21
+    ∷ repaired 1 2 2 full second_comm
     ∷ callback 1 2 (codes "n")
     ∷ print 1 2 (codes "a") ((pos 0) ∷ [])
     ∷ init 1 2 role.Survivor 1 1 2 full
