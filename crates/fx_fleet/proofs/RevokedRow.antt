@@ -1,4 +1,5 @@
--- One of three ranks is lost in a barrier: one fails and leaves, the other passes, and its next barrier is revoked.
+-- One of three ranks is lost in a barrier: one fails and leaves. The other waits for the part of the lost one, although the first left, and
+-- passes; its next barrier is revoked.
 use Rattle.std.specs.Prelude.{◌≡◌, refl, List, [], ◌∷◌}
 use Rattle.fx_base.specs.Sets.{those_below}
 use Rattle.fx_base.specs.declared.names.Role.TheVariants as role
@@ -32,7 +33,7 @@ abbrev pub setup : Setup
 setup = row_setup 3 0 known body
 
 abbrev pub events : List Moment
-events = (Step 0 ∷ Step 1 ∷ Step 2 ∷ Run 1 ∷ Deliver 2 1 ∷ Rest 1 ∷ Deliver 1 2 ∷ Kill 1 ∷ Notice 1 0 ∷ Deliver 2 0 ∷ Rest 0 ∷ Deliver 0 2 ∷ Rest 2 ∷ Deliver 0 2 ∷ Rest 2 ∷ [])
+events = (Step 0 ∷ Step 1 ∷ Step 2 ∷ Run 1 ∷ Deliver 2 1 ∷ Rest 1 ∷ Kill 1 ∷ Notice 1 0 ∷ Deliver 2 0 ∷ Rest 0 ∷ Deliver 0 2 ∷ Deliver 0 2 ∷ Rest 2 ∷ Deliver 1 2 ∷ Rest 2 ∷ [])
 
 abbrev pub items : List Item
 items =
