@@ -1,0 +1,123 @@
+ghost use Rattle.std.specs.Prelude.{◌≡◌, ◌++◌, map, true, OnOk};
+ghost use Rattle.fx_text.specs.Written.{Keeps, spaced};
+ghost use Rattle.fx_lines.specs.Items.{is_writable, line_of};
+ghost use Rattle.fx_trace.specs.Printed.{holding_text, item_text, message_text, row_text, row_words, word_of};
+
+use crate::field::Field;
+use crate::list::Tail;
+use crate::rows::{item_rows, message_rows};
+use fx_base::{Bytes, NoMemory};
+use fx_item::Item;
+use fx_link::{Known, Message};
+use fx_text::put_word;
+
+/// Prints the line of an item, without a line end, at the end of `out`.
+///
+/// Each field must have its form: a `join` tells one of the four slots that a process joins with, a name is a name, and
+/// slots, or seats, that are joined by commas are at least one. Without memory all that stood in `out` stays in front.
+pub fn print_item(item: &Item, out: &mut Bytes) -> Result<(), NoMemory>
+    requires { is_writable item.now ≡ true }
+    ensures ok { OnOk result (out.new ≡ out.old ++ line_of item.now) }
+    ensures keeps { Keeps out.old out.new }
+{
+    put_item(out, item)
+}
+
+// The arms that take a value apart: a row for each kind, with its word, its fields and what ends it.
+macro_rules! put_arms {
+    ({ $put:ident, $out:ident, $value:ident, $type:ident } $($number:literal $kind:ident $word:literal ($($field:ident: $shape:ident),*) $($last:ident: $end:ident)?;)*) => {
+        match $value {
+            $($type::$kind { $($field,)* $($last)? } => {
+                put_ended!($put, $out, $word, &[$(Field::$shape($field)),*] $(, $last: $end)?)
+            })*
+        }
+    };
+}
+
+// A row that ends with nothing, with what follows a list's mark, or with what is told in rows of its own.
+macro_rules! put_ended {
+    ($put:ident, $out:ident, $word:literal, $fields:expr) => {
+        $put($out, $word, $fields, Tail::Nothing)
+    };
+    ($put:ident, $out:ident, $word:literal, $fields:expr, $message:ident: Message) => {{
+        $put($out, $word, $fields, Tail::Nothing)?;
+        put_message($out, $message)
+    }};
+    ($put:ident, $out:ident, $word:literal, $fields:expr, $known:ident: Known) => {{
+        $put($out, $word, $fields, Tail::Nothing)?;
+        put_holding($out, $known)
+    }};
+    ($put:ident, $out:ident, $word:literal, $fields:expr, $list:ident: $end:ident) => {
+        $put($out, $word, $fields, Tail::$end($list))
+    };
+}
+
+fn put_item(out: &mut Bytes, item: &Item) -> Result<(), NoMemory>
+    ensures ok { OnOk result (out.new ≡ out.old ++ item_text item.now) }
+    ensures keeps { Keeps out.old out.new }
+{
+    item_rows!(put_arms! { put_row, out, item, Item })
+}
+
+// The words of a message, each behind a space.
+fn put_message(out: &mut Bytes, message: &Message) -> Result<(), NoMemory>
+    ensures ok { OnOk result (out.new ≡ out.old ++ message_text message.now) }
+    ensures keeps { Keeps out.old out.new }
+{
+    message_rows!(put_arms! { put_spaced_row, out, message, Message })
+}
+
+// What a process says that it holds, each word behind a space.
+fn put_holding(out: &mut Bytes, known: &Option<Known>) -> Result<(), NoMemory>
+    ensures ok { OnOk result (out.new ≡ out.old ++ holding_text known.now) }
+    ensures keeps { Keeps out.old out.new }
+{
+    match known {
+        None => put_spaced_row(out, b"unknown", &[], Tail::Nothing),
+        Some(known) => put_spaced_row(
+            out,
+            b"known",
+            &[
+                Field::Epoch(&known.created),
+                Field::Stamp(&known.next),
+                Field::Seats(&known.comm),
+            ],
+            Tail::Stamps(&known.stamps),
+        ),
+    }
+}
+
+// A row of fields behind the word that begins it.
+fn put_row(out: &mut Bytes, word: &[u8], fields: &[Field], tail: Tail) -> Result<(), NoMemory>
+    ensures ok { OnOk result (out.new ≡ out.old ++ row_text word.now fields.now tail.entry) }
+    ensures keeps { Keeps out.old out.new }
+{
+    out.append(word)?;
+    put_fields(out, fields)?;
+    tail.put(out)
+}
+
+// The same behind a space.
+fn put_spaced_row(
+    out: &mut Bytes,
+    word: &[u8],
+    fields: &[Field],
+    tail: Tail,
+) -> Result<(), NoMemory>
+    ensures ok { OnOk result (out.new ≡ out.old ++ spaced (row_words word.now fields.now tail.entry)) }
+    ensures keeps { Keeps out.old out.new }
+{
+    put_word(out, word)?;
+    put_fields(out, fields)?;
+    tail.put(out)
+}
+
+fn put_fields(out: &mut Bytes, fields: &[Field]) -> Result<(), NoMemory>
+    ensures ok { OnOk result (out.new ≡ out.old ++ spaced (map word_of fields.now)) }
+    ensures keeps { Keeps out.old out.new }
+{
+    for field in fields {
+        field.put(out)?;
+    }
+    Ok(())
+}
