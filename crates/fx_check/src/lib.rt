@@ -21,6 +21,8 @@ mod work;
 pub use accepted::Accepted;
 pub use check::check_job;
 pub use fault::{CheckJob, StaticFault};
+pub use lookup::array_in;
+pub use tables::IndexedJob;
 
 #[cfg(test)]
 mod tests;

@@ -1,0 +1,9 @@
+pub mod Following
+pub mod Declared
+pub mod Emitted
+pub mod Asks
+pub mod Selected
+pub mod Turns
+pub mod Went
+pub mod Kept
+pub mod Straight

@@ -1,0 +1,78 @@
+use Rattle.std.proofs.Common.{rules, ◌≡◌, refl, sym, ap, subst, ◌∙◌, ◌++◌, ◌-◌, suc, List, ◌∷◌, [], length, drop, ◌≤◌, ◌<◌, arith, IfOk, Some}
+use Rattle.fx_script.specs.declared.job.Stmt.TheOpen.{Stmt-F}
+use Rattle.fx_script.specs.declared.job.Stmt.TheVariants as stmt
+use Rattle.fx_check.specs.Facts.{facts_of}
+use Rattle.fx_flow.specs.Emits.{Emits, Puts}
+use Rattle.fx_flow.specs.Code.{Nothing, DoesLet, DoesSet, DoesPrint, DoesRegister, DoesWhen, DoesFor, DoesIf, DoesIfAlone, DoesOutward}
+use Rattle.fx_flow.proofs.Emitted.{if_ok, puts_on, puts_one, put_behind, twice, step, at_end}
+use Rattle.fx_flow.proofs.emit.+emitting.Goals as goal
+
+pub emit_stmts-loop-left-init : goal.emit_stmts-loop-left-init
+emit_stmts-loop-left-init t c = record { within = omega arith; emits = at_end (facts_of c.args.job.now) c.args.code.now c.args.after c.args.body.now }
+
+pub emit_stmts-loop-left-preserved : goal.emit_stmts-loop-left-preserved
+emit_stmts-loop-left-preserved t c =
+    let within : c.loop-left.left - 1 < length c.args.body.now = omega arith in
+    let back : suc (c.loop-left.left - 1) ≡ c.loop-left.left = omega arith in
+    record {
+      within = omega arith;
+      emits = step (facts_of c.args.job.now) c.args.code.now c.loop-left.code c.emit_stmt.new.code c.in_ok-next.next c.loop-left.next c.args.after (c.loop-left.left - 1) c.args.body.now c.index-body-left.result
+      within c.index-body-left.is (rw back c.loop-left.invariant.emits) c.in_ok-next.ensures;
+    }
+
+pub emit_stmt-returns-in-Let : goal.emit_stmt-returns-in-Let
+emit_stmt-returns-in-Let t c =
+    let puts = rw (c.names.ensures) at c.put_let.ensures in
+    rw (c.in-Let.is) (if_ok c.put_let.result _ _ (λ p puts. puts_one (facts_of c.args.job.now) _ _ p _ _ c.args.after puts (DoesLet c.in-Let.spot c.in-Let.array c.in-Let.value puts.there Nothing)) puts)
+
+pub emit_stmt-returns-in-Set : goal.emit_stmt-returns-in-Set
+emit_stmt-returns-in-Set t c =
+    let puts = rw (c.names-in-Set.ensures) at c.put_set.ensures in
+    rw (c.in-Set.is) (if_ok c.put_set.result _ _ (λ p puts. puts_one (facts_of c.args.job.now) _ _ p _ _ c.args.after puts (DoesSet c.in-Set.spot c.in-Set.counter c.in-Set.value puts.there Nothing)) puts)
+
+pub emit_stmt-returns-in-Print : goal.emit_stmt-returns-in-Print
+emit_stmt-returns-in-Print t c =
+    let f = facts_of c.args.job.now in
+    rw (c.in-Print.is) (if_ok c.put_print.result _ _ (λ p puts. let is = puts f (sym c.names-in-Print.ensures) in puts_one f _ _ p _ _ c.args.after is (DoesPrint c.in-Print.spot c.in-Print.name is.there Nothing)) c.put_print.ensures)
+
+pub emit_stmt-returns-in-Register : goal.emit_stmt-returns-in-Register
+emit_stmt-returns-in-Register t c =
+    rw (c.in-Register.is) (if_ok c.put_register.result _ _ (λ p puts. puts_one (facts_of c.args.job.now) _ _ p _ _ c.args.after puts (DoesRegister c.in-Register.spot c.in-Register.name puts.there Nothing)) c.put_register.ensures)
+
+pub emit_stmt-returns-in_ok-inside-in-RoleOnly : goal.emit_stmt-returns-in_ok-inside-in-RoleOnly
+emit_stmt-returns-in_ok-inside-in-RoleOnly t c =
+    let f = facts_of c.args.job.now in
+    let e = rw (c.as_slice.ensures) at c.in_ok-inside-in-RoleOnly.ensures in
+    rw (c.in-RoleOnly.is)
+    (if_ok c.put.result _ _ (λ p puts. puts_on f _ _ _ e.more p _ _ c.args.after e.grew puts
+        (DoesWhen c.in-RoleOnly.spot c.in-RoleOnly.role c.in-RoleOnly.body puts.there (put_behind f _ _ p _ _ _ _ puts e.leads) Nothing)) c.put.ensures)
+
+pub emit_stmt-returns-in_ok-inside-in-Loop : goal.emit_stmt-returns-in_ok-inside-in-Loop
+emit_stmt-returns-in_ok-inside-in-Loop t c =
+    let f = facts_of c.args.job.now in
+    let e = rw (c.as_slice-in-Loop.ensures) at c.in_ok-inside-in-Loop.ensures in
+    let puts = rw (c.names-in-Loop.ensures) at c.put_for.ensures in
+    rw (c.in-Loop.is)
+    (if_ok c.put_for.result _ _ (λ p puts. puts_on f _ _ _ e.more p _ _ c.args.after e.grew puts
+        (DoesFor c.in-Loop.spot c.in-Loop.counter c.in-Loop.first c.in-Loop.last c.in-Loop.body c.last_of.result puts.there c.last_of.ensures (put_behind f _ _ p _ _ _ _ puts e.leads) Nothing)) puts)
+
+pub emit_stmt-returns-in-None : goal.emit_stmt-returns-in-None
+emit_stmt-returns-in-None t c =
+    let f = facts_of c.args.job.now in
+    let e = rw (c.as_slice-in-Branch.ensures) at c.in_ok-inside-in-Branch.ensures in
+    let puts = rw (c.names-in-None.ensures) at c.put_if.ensures in
+    rw (c.in-Branch.is, c.in-None.is)
+    (if_ok c.put_if.result _ _ (λ p puts. puts_on f _ _ _ e.more p _ _ c.args.after e.grew puts
+        (DoesIfAlone c.in-Branch.spot c.in-Branch.test c.in-Branch.left c.in-Branch.right c.in-Branch.yes puts.there (put_behind f _ _ p _ _ _ _ puts e.leads) Nothing)) puts)
+
+pub emit_stmt-returns-in_ok-next-in-Some : goal.emit_stmt-returns-in_ok-next-in-Some
+emit_stmt-returns-in_ok-next-in-Some t c =
+    let f = facts_of c.args.job.now in
+    let first = rw (c.as_slice-in-Branch.ensures) at c.in_ok-inside-in-Branch.ensures in
+    let then = rw (c.as_slice-in-Some.ensures) at c.in_ok-next-in-Some.ensures in
+    let both = twice f _ _ _ _ _ _ _ c.args.after first then in
+    let puts = rw (c.names-in-Some.ensures) at c.put_if-in-Some.ensures in
+    rw (c.in-Branch.is, c.in-Some.is)
+    (if_ok c.put_if-in-Some.result _ _ (λ p puts. puts_on f _ _ _ both.0 p _ _ c.args.after both.1 puts
+        (DoesIf c.in-Branch.spot c.in-Branch.test c.in-Branch.left c.in-Branch.right c.in-Branch.yes c.in-Some.no puts.there
+        (put_behind f _ _ p _ _ _ _ puts both.2) (put_behind f _ _ p _ _ _ _ puts then.leads) Nothing)) puts)

@@ -1,0 +1,295 @@
+ghost use Rattle.std.specs.Prelude.{◌≡◌, ℤ, List, Some, None, IfOk, OnOk, OnErr, length, slice_get};
+ghost use Rattle.std.specs.Option.{option_map};
+ghost use Rattle.fx_script.specs.declared.job.Job.{Job};
+ghost use Rattle.fx_check.specs.Facts.{facts_of};
+ghost use Rattle.fx_walk.specs.declared.action.At.TheVariants as at;
+ghost use Rattle.fx_walk.specs.declared.action.View.{View};
+ghost use Rattle.fx_walk.specs.Along.{at_of};
+ghost use Rattle.fx_walk.specs.InStep.{job_walk};
+ghost use Rattle.fx_walk.specs.State.{at_init, blank};
+ghost use Rattle.fx_walk.specs.Walk.{Elements, Entries, Nothing, Number, Walk};
+ghost use Rattle.fx_flow.specs.declared.instr.Instr.TheVariants as instr;
+ghost use Rattle.fx_flow.specs.Code.{Moves, acts};
+ghost use Rattle.fx_flow.specs.Emits.{Grows};
+ghost use Rattle.fx_flow.specs.Flowing.{AreRoutines, AsksFor, DoesRest, IsFlowOf, TellsNeed, WantsElements, WantsEntries, WantsNumber, WasAnswered, WentOn, before, counter_of, next_of, outward_in, restored_of, state_of, target_of};
+
+use crate::asking::wanted_by;
+use crate::cursor::Cursor;
+use crate::emit::{emit_stmts, put};
+use crate::instr::{Instr, Loop, Outward, Routine};
+use fx_base::{Elems, MemberId, NoMemory, Role, Seq, Sparse};
+use fx_check::{Accepted, IndexedJob};
+use fx_walk::{At, Printed, View, Wanted};
+use std::alloc::Global;
+use std::marker::Model;
+
+/// The flat code of a job's body, with a cursor in it, counters, arrays and registered callbacks.
+#[derive(Debug, Drop)]
+pub struct Flow {
+    alloc: Global,
+    code: Seq<Instr>,
+    begin: usize,
+    routines: Seq<Routine>,
+    cursor: Cursor,
+}
+
+impl Model for Flow {
+    ghost use Rattle.fx_flow.specs.Flowing.{Flowing};
+    ghost use Rattle.fx_flow.specs.Stands.{flow_code};
+
+    ghost Value = { Flowing };
+
+    ghost coded = { flow_code };
+
+    ghost view = { λ f. record { code = f.code; begin = f.begin; routines = f.routines; stand = f.cursor } };
+}
+
+impl Flow {
+    /// A flow of the job, at the beginning of its body: counters and elements are 0, and no callback
+    /// is registered.
+    pub fn new(alloc: Global, job: &Accepted) -> Result<Flow, NoMemory>
+        ensures of_job { IfOk result (λ flow. IsFlowOf job.now flow) }
+        ensures begins { IfOk result (λ flow. (view : View) → DoesRest view (job_walk job.now view (blank (facts_of job.now))) flow) }
+        ensures blank { IfOk result (λ flow. state_of flow ≡ blank (facts_of job.now)) }
+    {
+        let job = job.job();
+        let indexed = IndexedJob::new(alloc, job)?;
+        let mut code = Seq::new(alloc);
+        let _ = put(&mut code, Instr::End)?;
+        let begin = emit_stmts(alloc, &indexed, &mut code, job.body.as_slice(), 0)?;
+        let routines = emit_routines(alloc, &indexed, &mut code)?;
+        let cursor = Cursor::new(alloc, job.names.as_slice(), begin)?;
+        Ok(Flow {
+            alloc,
+            code,
+            begin,
+            routines,
+            cursor,
+        })
+    }
+
+    /// Which kind of action comes next: exactly that of the walk. It takes no memory.
+    pub fn at(&self) -> At
+        ensures same { result ≡ next_of self.now }
+        ensures of_walk { (view : View) (walk : Walk) → DoesRest view walk self.now → result ≡ at_of walk }
+    {
+        match self.code.nth(self.cursor.place()) {
+            None | Some(Instr::End) => {
+                if self.cursor.is_open() {
+                    At::Plain
+                } else {
+                    At::Finish
+                }
+            }
+            Some(Instr::Outward { .. }) => At::Outward,
+            Some(_) => At::Plain,
+        }
+    }
+
+    /// Takes one plain action, which must come next, and gives what a `print` prints: `None` exactly
+    /// where the action isn't one. Without memory nothing changes.
+    pub fn advance(&mut self, view: &View) -> Result<Option<Printed>, NoMemory>
+        requires { next_of self.old ≡ at.Plain }
+        ensures goes_on { IfOk result (λ printed. (walk : Walk) → DoesRest view.now walk self.old → WentOn view.now walk printed self.new) }
+        ensures came_from { IfOk result (λ printed. (rest : Walk) → DoesRest view.now rest self.new → DoesRest view.now (before printed rest) self.old) }
+        ensures same_job { OnOk result ((job : Job) → IsFlowOf job self.old → IsFlowOf job self.new) }
+        ensures no_memory { OnErr result (self.new ≡ self.old) }
+    {
+        self.act(view)
+    }
+
+    /// What the outward statement that must come next asks, with the values of its operands: exactly
+    /// what the walk asks.
+    pub fn wanted(&self, view: &View) -> Result<Wanted, NoMemory>
+        requires { next_of self.now ≡ at.Outward }
+        ensures asked { IfOk result (λ wanted. (walk : Walk) → DoesRest view.now walk self.now → AsksFor walk wanted) }
+        ensures need { IfOk result (λ wanted. TellsNeed self.now wanted) }
+    {
+        match outward_at(&self.code, self.cursor.place()) {
+            Some((what, _)) => wanted_by(self.alloc, what, view, self.cursor.values()),
+            None => unreachable!(),
+        }
+    }
+
+    /// Answers a sum, min, max or agree, which must be wanted: the number is set in its counter. It
+    /// takes no memory.
+    pub fn give_counter(&mut self, value: i64)
+        requires { WantsNumber self.old }
+        ensures goes_on { (view : View) (walk : Walk) (latest : List ℤ) → DoesRest view walk self.old → WasAnswered view walk (record { given = Number value; latest = latest }) self.new }
+        ensures same_job { (job : Job) → IsFlowOf job self.old → IsFlowOf job self.new }
+    {
+        if let Some((what, next)) = outward_at(&self.code, self.cursor.place())
+            && let Some(counter) = counter_of(what)
+        {
+            self.cursor.take_number(counter, value, next);
+        }
+    }
+
+    /// Answers a shift, which must be wanted: the elements become those of its array, which has as
+    /// many.
+    pub fn give_array(&mut self, values: Elems)
+        requires { WantsElements self.old (length values) }
+        ensures goes_on { (view : View) (walk : Walk) (latest : List ℤ) → DoesRest view walk self.old → WasAnswered view walk (record { given = Elements values; latest = latest }) self.new }
+        ensures same_job { (job : Job) → IsFlowOf job self.old → IsFlowOf job self.new }
+    {
+        if let Some((what, next)) = outward_at(&self.code, self.cursor.place())
+            && let Some(target) = target_of(what)
+        {
+            self.cursor.take_elements(target, values, next);
+        }
+    }
+
+    /// Answers a restore of this member, which must be wanted: the elements are written at exactly
+    /// their indices of its array, and all others stay. It takes no memory.
+    pub fn give_some(&mut self, member: MemberId, values: &Sparse)
+        requires { WantsEntries self.old member }
+        ensures goes_on { (view : View) (walk : Walk) (latest : List ℤ) → DoesRest view walk self.old → WasAnswered view walk (record { given = Entries values.now; latest = latest }) self.new }
+        ensures same_job { (job : Job) → IsFlowOf job self.old → IsFlowOf job self.new }
+    {
+        if let Some((what, next)) = outward_at(&self.code, self.cursor.place())
+            && let Some((_, array)) = restored_of(what)
+        {
+            self.cursor.take_entries(array, values, next);
+        }
+    }
+
+    /// Passes an outward statement, which must come next: it is given nothing. It takes no memory.
+    pub fn pass(&mut self)
+        requires { next_of self.old ≡ at.Outward }
+        ensures goes_on { (view : View) (walk : Walk) (latest : List ℤ) → DoesRest view walk self.old → WasAnswered view walk (record { given = Nothing; latest = latest }) self.new }
+        ensures same_job { (job : Job) → IsFlowOf job self.old → IsFlowOf job self.new }
+    {
+        if let Some((_, next)) = outward_at(&self.code, self.cursor.place()) {
+            self.cursor.move_to(next);
+        }
+    }
+
+    /// Goes back to the beginning of the body, from wherever it stands. The counters are 0; a
+    /// survivor's arrays and callbacks stay, and another's elements are 0 and its callbacks
+    /// forgotten. It takes no memory.
+    pub fn rewind(&mut self, role: Role)
+        ensures begins { (job : Job) → IsFlowOf job self.old → (view : View) → DoesRest view (job_walk job view (at_init (facts_of job) role (state_of self.old))) self.new }
+        ensures keeps { (job : Job) → IsFlowOf job self.old → state_of self.new ≡ at_init (facts_of job) role (state_of self.old) }
+        ensures same_job { (job : Job) → IsFlowOf job self.old → IsFlowOf job self.new }
+    {
+        self.cursor.rewind(self.begin, role);
+    }
+
+    /// Takes the action of the next instruction.
+    fn act(&mut self, view: &View) -> Result<Option<Printed>, NoMemory>
+        requires { next_of self.old ≡ at.Plain }
+        ensures same { OnOk result (self.new ≡ record self.old { stand = self.new.stand }) }
+        ensures acts { IfOk result (λ printed. acts self.old.code view.now self.old.stand ≡ Moves printed self.new.stand) }
+        ensures no_memory { OnErr result (self.new ≡ self.old) }
+    {
+        let cursor = &mut self.cursor;
+        match self.code.nth(cursor.place()) {
+            None | Some(Instr::End) => cursor.end_turn(),
+            Some(Instr::Let { array, value, next }) => {
+                cursor.compute_array(view, *array, value, *next)?;
+            }
+            Some(Instr::Set {
+                counter,
+                value,
+                next,
+            }) => cursor.compute_counter(view, *counter, value, *next),
+            Some(Instr::Print {
+                name,
+                variable,
+                next,
+            }) => {
+                let printed = cursor.printed(self.alloc, name, *variable)?;
+                cursor.move_to(*next);
+                return Ok(Some(printed));
+            }
+            Some(Instr::Register { name, next }) => cursor.register(name, *next)?,
+            Some(Instr::When { role, inside, next }) => cursor.enter(view, *role, *inside, *next),
+            Some(Instr::If {
+                test,
+                left,
+                right,
+                chosen,
+                other,
+            }) => cursor.choose(view, *test, left, right, *chosen, *other),
+            Some(Instr::For {
+                counter,
+                first,
+                last,
+                inside,
+                next,
+            }) => {
+                let turn = Loop {
+                    counter: *counter,
+                    last: *last,
+                    inside: *inside,
+                    next: *next,
+                    turns: 0,
+                };
+                cursor.begin_loop(view, first, turn)?;
+            }
+            Some(Instr::Outward { .. }) => unreachable!(),
+        }
+        Ok(None)
+    }
+}
+
+/// The outward statement at a place, if one stands there, and the place behind it.
+fn outward_at(code: &Seq<Instr>, place: usize) -> Option<(&Outward, usize)>
+    ensures { option_map (λ due. (due.0.now, due.1)) result ≡ outward_in (slice_get code.now place) }
+{
+    match code.nth(place) {
+        Some(Instr::Outward { what, next }) => Some((what, *next)),
+        _ => None,
+    }
+}
+
+/// The counter that is set to a number.
+fn counter_of(what: &Outward) -> Option<usize>
+    ensures { result ≡ counter_of what.now }
+{
+    match what {
+        Outward::Reduce { counter, .. } | Outward::Agree { counter, .. } => Some(*counter),
+        _ => None,
+    }
+}
+
+/// The array whose elements become others.
+fn target_of(what: &Outward) -> Option<usize>
+    ensures { result ≡ target_of what.now }
+{
+    match what {
+        Outward::Shift { target, .. } => Some(*target),
+        _ => None,
+    }
+}
+
+/// The member that is restored, and its array.
+fn restored_of(what: &Outward) -> Option<(MemberId, usize)>
+    ensures { result ≡ restored_of what.now }
+{
+    match what {
+        Outward::Restore { member, array, .. } => Some((*member, *array)),
+        _ => None,
+    }
+}
+
+/// Puts the code of the callbacks behind the code, and tells where each begins.
+fn emit_routines(
+    alloc: Global,
+    job: &IndexedJob,
+    code: &mut Seq<Instr>,
+) -> Result<Seq<Routine>, NoMemory>
+    ensures grew { OnOk result (Grows code.old code.new) }
+    ensures are { IfOk result (λ routines. slice_get code.old 0 ≡ Some instr.End → AreRoutines (facts_of job.now) code.new routines job.now.callbacks) }
+{
+    let mut routines = Seq::new(alloc);
+    for callback in job.callbacks() {
+        let begin = emit_stmts(alloc, job, code, callback.body.as_slice(), 0)?;
+        routines.push(Routine {
+            name: callback.name.copy()?,
+            begin,
+            count: callback.body.len(),
+        })?;
+    }
+    Ok(routines)
+}
