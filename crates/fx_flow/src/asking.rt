@@ -1,4 +1,4 @@
-ghost use Rattle.std.specs.Prelude.{◌≡◌, ◌<◌, ◌^◌, pos, IfOk, get_or, length};
+ghost use Rattle.std.specs.Prelude.{◌≡◌, pos, IfOk, get_or};
 ghost use Rattle.fx_walk.specs.Values.{combined, reduced, reduced_with};
 ghost use Rattle.fx_flow.specs.Outward.{is_selected, selected, wanted_by};
 
@@ -130,12 +130,14 @@ fn selected(
     selection: &Selection,
     elements: &[i64],
 ) -> Result<Sparse, NoMemory>
-    requires { length elements.now < 2 ^ 32 }
     ensures { IfOk result (λ made. made ≡ selected selection.now elements.now) }
 {
     let mut made = Sparse::new(alloc);
     for (index, element) in elements.iter().enumerate() {
-        let index = index as u32;
+        // a map has room for indices of 32 bits
+        let Ok(index) = u32::try_from(index) else {
+            return Err(NoMemory);
+        };
         if is_selected(selection, index) {
             made.put(index, *element)?;
         }

@@ -1,7 +1,6 @@
-ghost use Rattle.std.specs.Prelude.{◌≡◌, ◌<◌, ◌^◌, ℕ, get_or, [], ◌-◌, suc, pos, true, Some, None, IfOk, OnOk, OnErr, length, if◌then◌else◌};
+ghost use Rattle.std.specs.Prelude.{◌≡◌, ◌<◌, ◌-◌, suc, pos, true, Some, None, IfOk, OnOk, OnErr, if◌then◌else◌};
 ghost use Rattle.fx_check.specs.Rules.{count_of};
 ghost use Rattle.fx_walk.specs.declared.action.View.{View};
-ghost use Rattle.fx_walk.specs.State.{zero_arrays};
 ghost use Rattle.fx_walk.specs.Values.{holds};
 ghost use Rattle.fx_walk.specs.Walk.{Elements, Entries, Number, is_same_role};
 ghost use Rattle.fx_value.specs.Shape.{blank_of, kept_by};
@@ -9,7 +8,7 @@ ghost use Rattle.fx_flow.specs.declared.instr.Instr.TheVariants as instr;
 ghost use Rattle.fx_flow.specs.Code.{Moves, acts_on, ends, start, values_at};
 ghost use Rattle.fx_flow.specs.Loops.{is_open};
 ghost use Rattle.fx_flow.specs.Stands.{moved_to};
-ghost use Rattle.fx_flow.specs.Outward.{array_at, takes_elements, takes_entries, takes_number};
+ghost use Rattle.fx_flow.specs.Outward.{takes_elements, takes_entries, takes_number};
 
 use crate::asking::elements_of;
 use crate::instr::{Loop, Variable};
@@ -44,7 +43,6 @@ impl Model for Cursor {
 impl Cursor {
     /// At the beginning of code, with zeros.
     pub fn new(alloc: Global, names: &[Decl], begin: usize) -> Result<Cursor, NoMemory>
-        requires { (slot : ℕ) → length (get_or (zero_arrays names.now) slot []) < 2 ^ 32 }
         ensures { IfOk result (λ cursor. cursor ≡ start begin (blank_of names.now)) }
     {
         Ok(Cursor {
@@ -223,7 +221,6 @@ impl Cursor {
 
     /// Puts the elements in the place of as many of an array, and goes to a place.
     pub fn take_elements(&mut self, array: usize, elements: Elems, next: usize)
-        requires { length elements ≡ length (array_at self.old.state array) }
         ensures { self.new ≡ record self.old { place = next; state = takes_elements array self.old.state (Elements elements) } }
     {
         self.values.set_array(array, elements);

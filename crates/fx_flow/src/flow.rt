@@ -182,35 +182,50 @@ impl Flow {
         ensures acts { IfOk result (λ printed. acts self.old.code view.now self.old.stand ≡ Moves printed self.new.stand) }
         ensures no_memory { OnErr result (self.new ≡ self.old) }
     {
-        let cursor = &mut self.cursor;
-        match self.code.nth(cursor.place()) {
-            None | Some(Instr::End) => cursor.end_turn(),
+        match self.code.nth(self.cursor.place()) {
+            None | Some(Instr::End) => {
+                self.cursor.end_turn();
+                Ok(None)
+            }
             Some(Instr::Let { array, value, next }) => {
-                cursor.compute_array(view, *array, value, *next)?;
+                self.cursor.compute_array(view, *array, value, *next)?;
+                Ok(None)
             }
             Some(Instr::Set {
                 counter,
                 value,
                 next,
-            }) => cursor.compute_counter(view, *counter, value, *next),
+            }) => {
+                self.cursor.compute_counter(view, *counter, value, *next);
+                Ok(None)
+            }
             Some(Instr::Print {
                 name,
                 variable,
                 next,
             }) => {
-                let printed = cursor.printed(self.alloc, name, *variable)?;
-                cursor.move_to(*next);
-                return Ok(Some(printed));
+                let printed = self.cursor.printed(self.alloc, name, *variable)?;
+                self.cursor.move_to(*next);
+                Ok(Some(printed))
             }
-            Some(Instr::Register { name, next }) => cursor.register(name, *next)?,
-            Some(Instr::When { role, inside, next }) => cursor.enter(view, *role, *inside, *next),
+            Some(Instr::Register { name, next }) => {
+                self.cursor.register(name, *next)?;
+                Ok(None)
+            }
+            Some(Instr::When { role, inside, next }) => {
+                self.cursor.enter(view, *role, *inside, *next);
+                Ok(None)
+            }
             Some(Instr::If {
                 test,
                 left,
                 right,
                 chosen,
                 other,
-            }) => cursor.choose(view, *test, left, right, *chosen, *other),
+            }) => {
+                self.cursor.choose(view, *test, left, right, *chosen, *other);
+                Ok(None)
+            }
             Some(Instr::For {
                 counter,
                 first,
@@ -225,11 +240,11 @@ impl Flow {
                     next: *next,
                     turns: 0,
                 };
-                cursor.begin_loop(view, first, turn)?;
+                self.cursor.begin_loop(view, first, turn)?;
+                Ok(None)
             }
             Some(Instr::Outward { .. }) => unreachable!(),
         }
-        Ok(None)
     }
 }
 
