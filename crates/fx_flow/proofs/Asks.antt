@@ -1,9 +1,11 @@
 -- What outward instructions ask and take is what their statements do.
-use Rattle.std.proofs.Common.{◌≡◌, ◌≤◌, ℕ, suc, ◌+◌, Bool, true, false, not, ◌&&◌, ◌||◌, List, [], ◌∷◌, map, get_or, Option, Some, None, refl, ap, sym, subst, ◌∙◌, arith}
+use Rattle.std.proofs.Common.{◌≡◌, ◌≤◌, ℕ, suc, ◌+◌, Bool, true, false, not, ◌&&◌, ◌||◌, List, [], ◌∷◌, map, get_or, Option, Some, None, refl, ap, sym, subst, ◌∙◌, arith, Result, Ok, Err, IfOk}
 use Rattle.std.specs.Prelude.{ℤ, pos, negsuc, nat_le, if◌then◌else◌}
 use Rattle.std.specs.FinMap.{from_sorted}
 use Rattle.std.specs.Ordering.{nat_cmp}
 use Rattle.std.proofs.lemmas.Bool.{and_parts}
+use Rattle.std.specs.List.{list_all}
+use Rattle.fx_base.specs.declared.memory.NoMemory.{NoMemory}
 use Rattle.fx_base.specs.declared.names.GroupId.{GroupId}
 use Rattle.fx_base.specs.declared.names.MemberId.{MemberId}
 use Rattle.fx_base.specs.declared.names.Op.{Op}
@@ -17,7 +19,7 @@ use Rattle.fx_subset.specs.Indices.{blocks_of, union_of}
 use Rattle.fx_subset.proofs.Cover.{contains-union_of}
 use Rattle.fx_subset.specs.declared.fault.SubsetFault.{SubsetFault}
 use Rattle.fx_check.specs.Facts.{Facts, is_array, is_one_of_eight, has_group, has_member, first_attached}
-use Rattle.fx_check.specs.Rules.{count_of, is_between, fits_32, picked_fits_32, pair_of, lies_in, is_faultless, subset_fault, length_of_attached, are_of_one_length, expr_groups_fit}
+use Rattle.fx_check.specs.Rules.{count_of, is_between, fits_32, picked_fits_32, pair_fits_32, pair_of, lies_in, is_faultless, subset_fault, length_of_attached, are_of_one_length, expr_groups_fit}
 use Rattle.fx_check.specs.Facts.{array_in}
 use Rattle.fx_walk.specs.State.{counter_slot, array_slot}
 use Rattle.fx_walk.specs.Values.{sight}
@@ -135,3 +137,22 @@ blocks_select len blocks start end stride which is h i =
 pub ranges_select : (len : ℕ) (pairs : List (ℤ × ℤ)) (which : Selection) → (fault_of_pairs len (map pair_of pairs) ≡ None → which ≡ selection.Within (union_of (map pair_of pairs)))
     → is_faultless (subset_fault len (picked.Ranges pairs)) ≡ true → Selects (picked.Ranges pairs) which
 ranges_select len pairs which is h i = rw (is (no_fault _ h)) (sym (contains-union_of (map pair_of pairs) i))
+
+-- ---- what is made of it
+
+pub blocks_made : (r : Result Selection NoMemory) (len : ℕ) (blocks start end stride : ℤ) (b s e t : ℕ)
+    → (fits_32 blocks ≡ true → b ≡ count_of blocks) → (fits_32 start ≡ true → s ≡ count_of start) → (fits_32 end ≡ true → e ≡ count_of end) → (fits_32 stride ≡ true → t ≡ count_of stride)
+    → IfOk r (λ which. fault_of_blocks len b s e t ≡ None → which ≡ selection.Within (union_of (blocks_of b s e t)))
+    → IfOk r (λ which. picked_fits_32 (picked.Strided blocks start end stride) ≡ true → is_faultless (subset_fault len (picked.Strided blocks start end stride)) ≡ true → Selects (picked.Strided blocks start end stride) which)
+blocks_made (Ok which) len blocks start end stride b s e t is_b is_s is_e is_t made = λ fits faultless.
+    let all = and_parts (fits_32 blocks && fits_32 start && fits_32 end) (fits_32 stride) fits in
+    let three = and_parts (fits_32 blocks && fits_32 start) (fits_32 end) all.0 in
+    let two = and_parts (fits_32 blocks) (fits_32 start) three.0 in
+    blocks_select len blocks start end stride which (rw (is_b two.0, is_s two.1, is_e three.1, is_t all.1) at made) faultless
+blocks_made (Err error) len blocks start end stride b s e t is_b is_s is_e is_t made = tt
+
+pub ranges_made : (r : Result Selection NoMemory) (len : ℕ) (pairs : List (ℤ × ℤ)) (made : List (ℕ × ℕ)) → (list_all pair_fits_32 pairs ≡ true → made ≡ map pair_of pairs)
+    → IfOk r (λ which. fault_of_pairs len made ≡ None → which ≡ selection.Within (union_of made))
+    → IfOk r (λ which. picked_fits_32 (picked.Ranges pairs) ≡ true → is_faultless (subset_fault len (picked.Ranges pairs)) ≡ true → Selects (picked.Ranges pairs) which)
+ranges_made (Ok which) len pairs made are is = λ fits faultless. ranges_select len pairs which (rw (are fits) at is) faultless
+ranges_made (Err error) len pairs made are is = tt

@@ -1,6 +1,7 @@
 -- A map of selected elements grows at its end.
-use Rattle.std.proofs.Common.{◌≡◌, ℕ, zero, suc, ◌+◌, ◌<◌, Bool, true, false, ◌&&◌, T, IsTrue, List, [], ◌∷◌, ◌++◌, length, take, get_or, append-nil, refl, ap, sym, subst, ◌∙◌, arith, add-zero}
-use Rattle.std.specs.Prelude.{ℤ, if◌then◌else◌}
+use Rattle.std.proofs.Common.{◌≡◌, ℕ, zero, suc, ◌+◌, ◌<◌, Bool, true, false, ◌&&◌, T, IsTrue, List, [], ◌∷◌, ◌++◌, length, take, get_or, append-nil, refl, ap, sym, subst, ◌∙◌, arith, add-one}
+use Rattle.std.specs.Prelude.{ℤ, pos, if◌then◌else◌}
+use Rattle.std.proofs.Math.ListN.{length-take}
 use Rattle.std.specs.FinMap.{FinMap, is_sorted, put, from_sorted, insert}
 use Rattle.std.specs.FinMap.Entries.{below_all}
 use Rattle.std.specs.Ordering.{nat_cmp}
@@ -10,13 +11,19 @@ use Rattle.std.proofs.lemmas.Cmp.{nat_cmp_total}
 use Rattle.std.proofs.Math.Seq.{take-suc}
 use Rattle.fx_base.proofs.Maps.{put_is_insert}
 use Rattle.fx_flow.specs.declared.instr.Selection.{Selection}
-use Rattle.fx_flow.specs.Outward.{is_selected, selected_from}
+use Rattle.fx_flow.specs.Outward.{is_selected, selected_from, selected}
 
 less : (x y : ℕ) → x < y → nat_cmp x y ≡ Less
 less x y h = sym (nat_cmp_is x y Less h)
 
 greater : (x y : ℕ) → y < x → nat_cmp x y ≡ Greater
 greater x y h = sym (nat_cmp_is x y Greater h)
+
+length-take_within : (elements : List ℤ) (i : ℕ) → i < length elements → length (take i elements) ≡ i
+length-take_within elements i below = grind (arith, length-take)
+
+next : (elements : List ℤ) (i : ℕ) → i < length elements → take (i + 1) elements ≡ take i elements ++ get_or elements i (pos 0) ∷ []
+next elements i below = rw add-one (take-suc elements i (pos 0) below)
 
 -- ---- order
 
@@ -93,3 +100,22 @@ module _ (which : Selection) (xs : List ℤ) (x : ℤ) where
   -- and another one isn't
   pub skips_one : is_selected which (length xs) ≡ false → from_sorted {R = nat_cmp} (selected_from which 0 xs) ≡ from_sorted (selected_from which 0 (xs ++ x ∷ []))
   skips_one is = ap (λ (es : List (ℕ × ℤ)). from_sorted {R = nat_cmp} es) (sym (append-nil (selected_from which 0 xs)) ∙ sym (more_by false is))
+
+-- ---- a step
+
+-- the map of the elements up to an index, with the one at it, if it is selected
+pub puts_next : (which : Selection) (elements : List ℤ) (i : ℕ) → i < length elements → (made : FinMap nat_cmp ℤ) → made ≡ selected which (take i elements) → is_selected which i ≡ true
+    → insert made i (get_or elements i (pos 0)) ≡ selected which (take (i + 1) elements)
+puts_next which elements i below made is chosen =
+    let x = get_or elements i (pos 0) in
+    let len : length (take i elements) ≡ i = length-take_within elements i below in
+    let here : is_selected which (length (take i elements)) ≡ true = rw len chosen in
+    let put = rw len at (takes_one which (take i elements) x here) in
+    ap (λ (m : FinMap nat_cmp ℤ). insert m i x) is ∙ put ∙ ap (selected which) (sym (next elements i below))
+
+pub skips_next : (which : Selection) (elements : List ℤ) (i : ℕ) → i < length elements → (made : FinMap nat_cmp ℤ) → made ≡ selected which (take i elements) → is_selected which i ≡ false
+    → made ≡ selected which (take (i + 1) elements)
+skips_next which elements i below made is chosen =
+    let len : length (take i elements) ≡ i = length-take_within elements i below in
+    let here : is_selected which (length (take i elements)) ≡ false = rw len chosen in
+    is ∙ skips_one which (take i elements) (get_or elements i (pos 0)) here ∙ ap (selected which) (sym (next elements i below))
