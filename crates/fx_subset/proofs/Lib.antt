@@ -1,3 +1,5 @@
+pub mod Gathered
+pub mod Written
 pub mod Apart
 pub mod Bounds
 pub mod Count

@@ -1,3 +1,4 @@
+pub mod Elements
 pub mod Fault
 pub mod Indices
 pub mod Runs

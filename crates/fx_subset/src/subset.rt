@@ -1,10 +1,12 @@
 ghost use Rattle.std.specs.Prelude.{◌≡◌, IfOk};
 ghost use Rattle.std.specs.FinSet as set;
+ghost use Rattle.fx_subset.specs.Elements.{gathered};
 ghost use Rattle.fx_subset.specs.Indices.{union_of};
 ghost use Rattle.fx_subset.specs.Runs.{AreApart};
 
+use crate::elements::gather_runs;
 use crate::runs::{covers, joined, total};
-use fx_base::NoMemory;
+use fx_base::{Elems, NoMemory, Sparse};
 use std::marker::Model;
 
 /// A set of indices, each below 4,294,967,295.
@@ -61,5 +63,12 @@ impl Subset {
         intervals.extend_from_slice(other.runs.as_slice())?;
         let runs = joined(alloc, intervals)?;
         Ok(Subset::of_runs(runs))
+    }
+
+    /// The elements of an array at the indices of the set, as far as the array goes.
+    pub fn gather(&self, from: &Elems) -> Result<Sparse, NoMemory>
+        ensures { IfOk result (λ elements. elements ≡ gathered self.now from.now) }
+    {
+        gather_runs(*self.runs.allocator(), self.runs.as_slice(), from)
     }
 }

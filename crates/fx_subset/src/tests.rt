@@ -1,5 +1,5 @@
 use super::*;
-use fx_base::Pairs;
+use fx_base::{Elems, Pairs};
 use std::alloc::Global;
 use std::test::Fail;
 
@@ -99,6 +99,38 @@ fn the_largest_array(rt: HostRuntime) -> Result<(), Fail> {
     match full(rt.alloc(), 0) {
         Ok(_) => assert!(rt; false),
         Err(error) => assert_eq!(rt; error, MakeSubset::Refused(SubsetFault::NoBlocks)),
+    }
+    Ok(())
+}
+
+fn elements(alloc: Global, values: &[i64]) -> Result<Elems, Fail> {
+    let mut made = Elems::new(alloc);
+    for value in values {
+        made.push(*value)?;
+    }
+    Ok(made)
+}
+
+#[test]
+fn elements_are_taken_out_and_put_back(rt: HostRuntime) -> Result<(), Fail> {
+    let from = elements(rt.alloc(), &[10, 11, 12, 13, 14, 15])?;
+    let mut pairs = Pairs::new(rt.alloc());
+    for pair in [(4, 4), (1, 2), (2, 2)] {
+        pairs.push(pair)?;
+    }
+    let some = ranges(rt.alloc(), 6, &pairs)?;
+    let all = full(rt.alloc(), 6)?;
+    let none = empty(rt.alloc());
+    for (subset, count, put_back) in [
+        (&some, 3, [0, 11, 12, 0, 14, 0]),
+        (&all, 6, [10, 11, 12, 13, 14, 15]),
+        (&none, 0, [0, 0, 0, 0, 0, 0]),
+    ] {
+        let taken = subset.gather(&from)?;
+        assert_eq!(rt; taken.len(), count);
+        let mut into = elements(rt.alloc(), &[0, 0, 0, 0, 0, 0])?;
+        scatter(&taken, &mut into);
+        assert_eq!(rt; into.as_slice(), put_back.as_slice(), "of {count}");
     }
     Ok(())
 }

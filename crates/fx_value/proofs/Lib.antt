@@ -1,2 +1,7 @@
+pub mod ColumnLemmas
+pub mod Numbered
+pub mod Pairs
 pub mod Shapes
+pub mod Stored
 pub mod TermLemmas
+pub mod Writes

@@ -1,13 +1,17 @@
 -- What keeps the shape of a state.
-use Rattle.std.proofs.Common.{◌≡◌, ℕ, zero, suc, ◌<◌, List, [], ◌∷◌, map, length, get_or, replicate, refl, ap, subst, ◌∙◌}
-use Rattle.std.specs.Prelude.{ℤ, pos, slice_set}
+use Rattle.std.proofs.Common.{◌≡◌, ℕ, zero, suc, ◌+◌, List, [], ◌∷◌, map, length, get_or, replicate, refl, ap, sym, subst, ◌∙◌}
+use Rattle.std.specs.Prelude.{ℤ, pos, slice_set, Option, None, Some, Result, Ok, Err, OnOk}
+use Rattle.std.specs.FinMap.{FinMap, get}
+use Rattle.std.specs.Ordering.{nat_cmp}
+use Rattle.fx_base.specs.declared.memory.NoMemory.{NoMemory}
 use Rattle.fx_base.specs.declared.names.Role.{Role}
 use Rattle.fx_base.specs.declared.names.Role.TheVariants as role
 use Rattle.fx_script.specs.declared.job.Decl.{Decl}
 use Rattle.fx_script.specs.declared.job.Decl.TheVariants as decl
 use Rattle.fx_check.specs.Facts.{Facts}
 use Rattle.fx_check.specs.Rules.{count_of}
-use Rattle.fx_walk.specs.State.{State, at_init, blank, with_callback, zero_arrays, zero_counters}
+use Rattle.fx_subset.specs.Elements.{laid_from, put_over, scattered}
+use Rattle.fx_walk.specs.State.{State, at_init, restored_from, value_or, with_callback, zero_arrays, zero_counters}
 use Rattle.fx_value.specs.Shape.{IsShaped, blank_of, emptied, kept_by, zeroed}
 
 -- a state of these numbers with no callback
@@ -76,6 +80,20 @@ shaped_array names state slot elements same shaped =
 pub shaped_callback : (names : List Decl) (state : State) (name : List ℕ) → IsShaped names state → IsShaped names (with_callback state name)
 shaped_callback names state name shaped = shaped
 
+-- ---- its arrays are as long as they are declared
+
+length-zeroed : (ns : List ℤ) → length (zeroed ns) ≡ length ns
+length-zeroed [] = refl
+length-zeroed (n ∷ ns) = ap suc (length-zeroed ns)
+
+length-slot : (arrays : List (List ℤ)) (slot : ℕ) → length (get_or (map zeroed arrays) slot []) ≡ length (get_or arrays slot [])
+length-slot [] slot = refl
+length-slot (array ∷ arrays) zero = length-zeroed array
+length-slot (array ∷ arrays) (suc slot) = length-slot arrays slot
+
+pub shaped_length : (names : List Decl) (state : State) (slot : ℕ) → IsShaped names state → length (get_or state.arrays slot []) ≡ length (get_or (zero_arrays names) slot [])
+shaped_length names state slot shaped = sym (length-slot state.arrays slot) ∙ ap (λ (s : State). length (get_or s.arrays slot [])) shaped
+
 -- ---- what a role leaves
 
 pub kept_at_init : (f : Facts) (r : Role) (state : State) → IsShaped f.names state → kept_by r state ≡ at_init f r state
@@ -95,3 +113,27 @@ shaped_kept names role.Recovered state shaped =
 
 pub shaped_init : (f : Facts) (r : Role) (state : State) → IsShaped f.names state → IsShaped f.names (at_init f r state)
 shaped_init f r state shaped = let P : State → Type 0 = λ s. IsShaped f.names s in subst P (kept_at_init f r state shaped) (shaped_kept f.names r state shaped)
+
+-- ---- elements that are restored
+
+over_or : (old : ℤ) (found : Option ℤ) → put_over old found ≡ value_or old found
+over_or old None = refl
+over_or old (Some element) = refl
+
+restored_from-laid : (i : ℕ) (entries : FinMap nat_cmp ℤ) (olds : List ℤ) → laid_from (get entries) i olds ≡ restored_from i entries olds
+restored_from-laid i entries [] = refl
+restored_from-laid i entries (old ∷ olds) =
+    ap (λ (n : ℤ). n ∷ laid_from (get entries) (i + 1) olds) (over_or old (get entries i)) ∙ ap (λ (l : List ℤ). value_or old (get entries i) ∷ l) (restored_from-laid (i + 1) entries olds)
+
+-- what a map puts over an array is what a restore writes
+pub scattered-restored : (entries : FinMap nat_cmp ℤ) (olds : List ℤ) → scattered entries olds ≡ restored_from 0 entries olds
+scattered-restored entries olds = restored_from-laid 0 entries olds
+
+-- ---- parts of states
+
+abbrev pub with_arrays : State → List (List ℤ) → State
+with_arrays state arrays = record state { arrays = arrays }
+
+pub on_ok : {P Q : Type 0} (r : Result (Unit {0}) NoMemory) → (P → Q) → OnOk r P → OnOk r Q
+on_ok (Ok u) gives fact = gives fact
+on_ok (Err e) gives fact = tt

@@ -1,10 +1,11 @@
 -- States of one shape: as many counters, and arrays as long, as a job declares.
-use Rattle.std.specs.Prelude.{◌≡◌, refl, ℕ, ◌<◌, ◌^◌, ℤ, pos, List, [], ◌∷◌, length, map, get_or}
+use Rattle.std.specs.Prelude.{◌≡◌, refl, ℕ, ℤ, pos, List, [], ◌∷◌, map, codes}
 use Rattle.std.specs.Coded.{Coded, code_by, coded×, coded_list, coded_ℕ, coded_ℤ}
 use Rattle.fx_base.specs.declared.names.Role.{Role}
 use Rattle.fx_base.specs.declared.names.Role.TheVariants as role
 use Rattle.fx_script.specs.declared.job.Decl.{Decl}
-use Rattle.fx_walk.specs.State.{State, zero_counters, zero_arrays, row_facts, row_state}
+use Rattle.fx_script.specs.declared.job.Decl.TheVariants as decl
+use Rattle.fx_walk.specs.State.{State, zero_counters, zero_arrays}
 
 -- a state as the triple of its parts
 abbrev pub state_code : Coded State
@@ -36,16 +37,18 @@ kept_by role.Survivor state = record state { counters = zeroed state.counters }
 kept_by role.Initial state = emptied state
 kept_by role.Recovered state = emptied state
 
--- arrays of fewer elements than a signed number counts
-abbrev pub AreShort : List (List ℤ) → Type 0
-AreShort arrays = (slot : ℕ) → length (get_or arrays slot []) < 2 ^ 63
-
 -- ---- rows
 
+abbrev two_counters : List Decl
+two_counters = decl.Counter (record { line = 5; column = 1 }) (codes "c") ∷ decl.Array (record { line = 6; column = 1 }) (codes "a") (pos 2) ∷ decl.Counter (record { line = 7; column = 1 }) (codes "d") ∷ []
+
+abbrev some_state : State
+some_state = record { counters = pos 4 ∷ pos 5 ∷ []; arrays = (pos 6 ∷ pos 7 ∷ []) ∷ []; callbacks = codes "n" ∷ [] }
+
 -- two counters and an array of two elements
-of_one_shape : IsShaped row_facts.names row_state
+of_one_shape : IsShaped two_counters some_state
 of_one_shape = refl
 
 -- a survivor keeps its array and its callback
-kept : kept_by role.Survivor row_state ≡ record row_state { counters = pos 0 ∷ pos 0 ∷ [] }
+kept : kept_by role.Survivor some_state ≡ record some_state { counters = pos 0 ∷ pos 0 ∷ [] }
 kept = refl

@@ -118,7 +118,8 @@ fn named(names: &[Decl], name: &[u8]) -> Term
     }
 }
 
-fn count_of(number: i64) -> usize
+/// A number, or 0 in place of a negative one.
+pub(crate) fn count_of(number: i64) -> usize
     ensures { result ≡ count_of number }
 {
     number.max(0) as usize

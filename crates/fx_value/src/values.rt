@@ -1,17 +1,22 @@
-ghost use Rattle.std.specs.Prelude.{◌≡◌, ◌^◌, ◌<◌, pos, replicate, [], length, get_or, slice_set, map, OnOk, OnErr, IfOk, ℕ};
+ghost use Rattle.std.specs.Prelude.{◌≡◌, pos, replicate, [], length, get_or, slice_get, slice_set, map, OnOk, OnErr, IfOk, ℕ};
+ghost use Rattle.std.specs.List.{list_any};
+ghost use Rattle.std.specs.Option.{option_copied};
+ghost use Rattle.std.specs.Str.{bytes_eq};
 ghost use Rattle.fx_base.specs.declared.names.Role.{Role};
 ghost use Rattle.fx_script.specs.declared.expr.Expr.{Expr};
 ghost use Rattle.fx_check.specs.Facts.{Facts};
 ghost use Rattle.fx_check.specs.Rules.{count_of};
+ghost use Rattle.fx_subset.specs.Elements.{scattered};
 ghost use Rattle.fx_walk.specs.State.{at_init, restored_from, with_callback, zero_arrays, zero_counters};
 ghost use Rattle.fx_walk.specs.Values.{sight, values_from};
-ghost use Rattle.fx_value.specs.Shape.{IsShaped, blank_of, kept_by, zeroed};
+ghost use Rattle.fx_value.specs.Shape.{IsShaped, blank_of, emptied, kept_by, zeroed};
 ghost use Rattle.fx_value.specs.Terms.{term_of, term_values};
 
 use crate::column::Columns;
-use crate::formula::Formula;
+use crate::formula::{Formula, Term, count_of};
 use fx_base::{Bytes, Elems, NoMemory, Role, Sparse};
 use fx_script::Decl;
+use fx_subset::scatter;
 use fx_walk::View;
 use std::alloc::Global;
 use std::marker::Model;
@@ -27,15 +32,13 @@ pub struct Values {
 
 impl Model for Values {
     ghost use Rattle.fx_walk.specs.State.{State};
-    ghost use Rattle.fx_value.specs.Shape.{AreShort, state_code};
+    ghost use Rattle.fx_value.specs.Shape.{state_code};
 
     ghost Value = { State };
 
     ghost coded = { state_code };
 
     ghost view = { λ v. record { counters = v.counters.items; arrays = v.arrays.items; callbacks = v.callbacks.items } };
-
-    ghost invariant = { λ v. AreShort v.arrays.items };
 }
 
 impl Values {
@@ -56,13 +59,24 @@ impl Values {
         ensures same { self.new ≡ kept_by role self.old }
         ensures begins { (f : Facts) → IsShaped f.names self.old → self.new ≡ at_init f role self.old }
     {
-        self.counters.as_mut_slice().fill(0);
-        if role != Role::Survivor {
-            for array in self.arrays.iter_mut() {
-                zero(array);
-            }
-            self.callbacks.clear();
+        self.keep(role);
+    }
+
+    fn keep(&mut self, role: Role)
+        ensures { self.new ≡ kept_by role self.old }
+    {
+        match role {
+            Role::Survivor => zero_all(self.counters.as_mut_slice()),
+            Role::Initial | Role::Recovered => self.empty(),
         }
+    }
+
+    fn empty(&mut self)
+        ensures { self.new ≡ emptied self.old }
+    {
+        zero_all(self.counters.as_mut_slice());
+        zero_elements(self.arrays.as_mut_slice());
+        self.callbacks.clear();
     }
 
     /// The value of the counter in this slot, 0 where there is none.
@@ -77,13 +91,19 @@ impl Values {
 
     /// The elements of the array in this slot, none where there is no array.
     pub fn array(&self, slot: usize) -> &[i64]
-        ensures elements { result.now ≡ get_or self.now.arrays slot [] }
-        ensures short { length result.now < 2 ^ 63 }
+        ensures { result.now ≡ get_or self.now.arrays slot [] }
     {
         match self.arrays.get(slot) {
             Some(array) => array.as_slice(),
             None => &[],
         }
+    }
+
+    /// The array in this slot, as a list that can be copied; `None` exactly where there is none.
+    pub fn elements(&self, slot: usize) -> Option<&Elems>
+        ensures { option_copied result ≡ slice_get self.now.arrays slot }
+    {
+        self.arrays.get(slot)
     }
 
     /// The names of the registered callbacks, in the order of registration.
@@ -102,9 +122,8 @@ impl Values {
         }
     }
 
-    /// Puts elements in the place of as many of the array in this slot.
+    /// Puts elements in the place of the array in this slot. Where there is none, nothing changes.
     pub fn set_array(&mut self, slot: usize, elements: Elems)
-        requires { length elements ≡ length (get_or self.old.arrays slot []) }
         ensures { self.new ≡ record self.old { arrays = slice_set self.old.arrays slot elements } }
     {
         if let Some(array) = self.arrays.get_mut(slot) {
@@ -117,9 +136,7 @@ impl Values {
     pub fn write_some(&mut self, slot: usize, entries: &Sparse)
         ensures { self.new ≡ record self.old { arrays = slice_set self.old.arrays slot (restored_from 0 entries.now (get_or self.old.arrays slot [])) } }
     {
-        if let Some(array) = self.arrays.get_mut(slot) {
-            write_entries(array, entries);
-        }
+        put_entries(&mut self.arrays, slot, entries);
     }
 
     /// Registers a callback, once. Without memory nothing changes.
@@ -127,7 +144,7 @@ impl Values {
         ensures ok { OnOk result (self.new ≡ with_callback self.old name.now) }
         ensures no_memory { OnErr result (self.new ≡ self.old) }
     {
-        if self.callbacks.iter().any(|own| own.as_slice() == name.as_slice()) {
+        if is_registered(self.callbacks.as_slice(), name.as_slice()) {
             return Ok(());
         }
         self.callbacks.push(name.copy()?)?;
@@ -148,10 +165,22 @@ impl Values {
             → self.new ≡ record self.old { arrays = slice_set self.old.arrays slot (values_from f expr (sight view.now self.old) 0 (get_or self.old.arrays slot [])) }) }
         ensures no_memory { OnErr result (self.new ≡ self.old) }
     {
-        columns.compute(formula.term(), view, self, self.array(slot))?;
-        if let Some(array) = self.arrays.get_mut(slot) {
-            write_all(array, columns.as_slice());
-        }
+        self.compute(slot, formula.term(), view, columns)
+    }
+
+    fn compute(
+        &mut self,
+        slot: usize,
+        term: &Term,
+        view: &View,
+        columns: &mut Columns,
+    ) -> Result<(), NoMemory>
+        ensures ok { OnOk result (self.new ≡ record self.old { arrays = slice_set self.old.arrays slot (term_values term.now (sight view.now self.old) 0 (get_or self.old.arrays slot [])) }) }
+        ensures no_memory { OnErr result (self.new ≡ self.old) }
+    {
+        let column = columns.compute(term, view, self, self.array(slot))?;
+        put_elements(&mut self.arrays, slot, column.as_slice());
+        columns.give_back(column);
         Ok(())
     }
 }
@@ -183,11 +212,29 @@ fn zero_arrays(alloc: Global, names: &[Decl]) -> Result<Vec<Elems>, NoMemory>
 fn zeros(alloc: Global, len: i64) -> Result<Elems, NoMemory>
     ensures { IfOk result (λ elements. elements ≡ replicate (count_of len) (pos 0)) }
 {
+    let count = count_of(len);
     let mut elements = Elems::new(alloc);
-    for _ in 0..len {
+    elements.reserve(count)?;
+    for _ in 0..count {
         elements.push(0)?;
     }
     Ok(elements)
+}
+
+fn zero_all(numbers: &mut [i64])
+    ensures { numbers.new ≡ zeroed numbers.old }
+{
+    for number in numbers.iter_mut() {
+        *number = 0;
+    }
+}
+
+fn zero_elements(arrays: &mut [Elems])
+    ensures { arrays.new ≡ map zeroed arrays.old }
+{
+    for array in arrays.iter_mut() {
+        zero(array);
+    }
 }
 
 fn zero(array: &mut Elems)
@@ -195,6 +242,25 @@ fn zero(array: &mut Elems)
 {
     for at in 0..array.len() {
         array.set(at, 0);
+    }
+}
+
+/// Writes elements over as many of the array in a slot.
+fn put_elements(arrays: &mut Vec<Elems>, slot: usize, elements: &[i64])
+    requires { length elements.now ≡ length (get_or arrays.old.items slot []) }
+    ensures { arrays.new.items ≡ slice_set arrays.old.items slot elements.now }
+{
+    if let Some(array) = arrays.get_mut(slot) {
+        write_all(array, elements);
+    }
+}
+
+/// Writes elements at their indices of the array in a slot.
+fn put_entries(arrays: &mut Vec<Elems>, slot: usize, entries: &Sparse)
+    ensures { arrays.new.items ≡ slice_set arrays.old.items slot (scattered entries.now (get_or arrays.old.items slot [])) }
+{
+    if let Some(array) = arrays.get_mut(slot) {
+        scatter(entries, array);
     }
 }
 
@@ -207,15 +273,9 @@ fn write_all(array: &mut Elems, elements: &[i64])
     }
 }
 
-fn write_entries(array: &mut Elems, entries: &Sparse)
-    ensures { array.new ≡ restored_from 0 entries.now array.old }
+/// Whether a callback is among the registered ones.
+fn is_registered(callbacks: &[Bytes], name: &[u8]) -> bool
+    ensures { result ≡ list_any (λ own. bytes_eq own name.now) callbacks.now }
 {
-    for at in 0..entries.len() {
-        if let Some((index, value)) = entries.nth(at) {
-            let index = index as usize;
-            if index < array.len() {
-                array.set(index, *value);
-            }
-        }
-    }
+    callbacks.iter().any(|own| own.as_slice() == name)
 }
