@@ -1,8 +1,7 @@
 -- A flow as it is seen, and what it is to do the rest of a walk.
 use Rattle.std.specs.Prelude.{◌≡◌, ℕ, ℤ, Bool, true, false, List, [], ◌∷◌, length, slice_get, Option, Some, None, is_some, IsSomeAnd}
-use Rattle.fx_base.specs.declared.names.GroupId.{GroupId}
+use Rattle.std.specs.Str.{bytes_eq}
 use Rattle.fx_base.specs.declared.names.MemberId.{MemberId}
-use Rattle.fx_base.specs.declared.names.Role.{Role}
 use Rattle.fx_script.specs.declared.job.Callback.{Callback}
 use Rattle.fx_script.specs.declared.job.Job.{Job}
 use Rattle.fx_check.specs.Facts.{Facts, facts_of}
@@ -22,8 +21,7 @@ use Rattle.fx_flow.specs.declared.instr.Loop.{Loop}
 use Rattle.fx_flow.specs.declared.instr.Outward.{Outward}
 use Rattle.fx_flow.specs.declared.instr.Outward.TheVariants as outward
 use Rattle.fx_flow.specs.declared.instr.Routine.{Routine}
-use Rattle.fx_flow.specs.Code.{Stand, Act, acts, Follows, IsCode}
-use Rattle.fx_flow.specs.Loops.{is_open}
+use Rattle.fx_flow.specs.Code.{Stand, Follows, IsCode, start}
 use Rattle.fx_flow.specs.Outward.{array_at}
 
 -- the code of a job's body and of its callbacks, where the body begins, and where a rank stands
@@ -157,3 +155,23 @@ pub record IsFlowOf (job : Job) (flow : Flowing) : Type 0 where
   pub is_code : IsCode (facts_of job) flow.code flow.begin job.body
   pub are_routines : AreRoutines (facts_of job) flow.code flow.routines job.callbacks
   pub shaped : IsShaped job.names (state_of flow)
+
+-- it stands at the beginning of the body
+abbrev pub IsAtBegin : Flowing → Type 0
+IsAtBegin flow = flow.stand ≡ start flow.begin (state_of flow)
+
+-- ---- callbacks
+
+-- the code of this callback
+abbrev pub is_routine_of : List ℕ → Routine → Bool
+is_routine_of name routine = bytes_eq routine.name name
+
+-- where it begins, and how many statements it has
+abbrev pub part_of : Option Routine → Option (ℕ × ℕ)
+part_of None = None
+part_of (Some routine) = Some (routine.begin, routine.count)
+
+-- callbacks ran: the flow has another place and another state of the same shape, and nothing else changed
+pub record Ran (job : Job) (old new : Flowing) : Type 0 where
+  pub same : new ≡ record old { stand = record old.stand { place = new.stand.place; state = state_of new } }
+  pub shaped : IsShaped job.names (state_of new)

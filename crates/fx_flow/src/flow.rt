@@ -1,17 +1,19 @@
 ghost use Rattle.std.specs.Prelude.{◌≡◌, ℤ, List, Some, None, IfOk, OnOk, OnErr, length, slice_get};
+ghost use Rattle.std.specs.List.{find};
 ghost use Rattle.std.specs.Option.{option_map};
 ghost use Rattle.fx_script.specs.declared.job.Job.{Job};
 ghost use Rattle.fx_check.specs.Facts.{facts_of};
 ghost use Rattle.fx_walk.specs.declared.action.At.TheVariants as at;
 ghost use Rattle.fx_walk.specs.declared.action.View.{View};
 ghost use Rattle.fx_walk.specs.Along.{at_of};
+ghost use Rattle.fx_walk.specs.Callbacks.{callback_run, called_of, state_behind, state_behind_callbacks};
 ghost use Rattle.fx_walk.specs.InStep.{job_walk};
 ghost use Rattle.fx_walk.specs.State.{at_init, blank};
 ghost use Rattle.fx_walk.specs.Walk.{Elements, Entries, Nothing, Number, Walk};
 ghost use Rattle.fx_flow.specs.declared.instr.Instr.TheVariants as instr;
 ghost use Rattle.fx_flow.specs.Code.{Moves, acts};
 ghost use Rattle.fx_flow.specs.Emits.{Grows};
-ghost use Rattle.fx_flow.specs.Flowing.{AreRoutines, AsksFor, DoesRest, IsFlowOf, TellsNeed, WantsElements, WantsEntries, WantsNumber, WasAnswered, WentOn, before, counter_of, next_of, outward_in, restored_of, state_of, target_of};
+ghost use Rattle.fx_flow.specs.Flowing.{AreRoutines, AsksFor, DoesRest, IsAtBegin, IsFlowOf, Ran, TellsNeed, WantsElements, WantsEntries, WantsNumber, WasAnswered, WentOn, before, counter_of, is_routine_of, next_of, outward_in, part_of, restored_of, state_of, target_of};
 
 use crate::asking::wanted_by;
 use crate::cursor::Cursor;
@@ -19,7 +21,7 @@ use crate::emit::{emit_stmts, put};
 use crate::instr::{Instr, Loop, Outward, Routine};
 use fx_base::{Elems, MemberId, NoMemory, Role, Seq, Sparse};
 use fx_check::{Accepted, IndexedJob};
-use fx_walk::{At, Printed, View, Wanted};
+use fx_walk::{At, CallbackRun, Called, Printed, Prints, View, Wanted};
 use std::alloc::Global;
 use std::marker::Model;
 
@@ -175,6 +177,59 @@ impl Flow {
         self.cursor.rewind(self.begin, role);
     }
 
+    /// Runs the registered callbacks, in the order of registration, each from the state that the one
+    /// before left, and gives what each printed. The place stays. Without memory some of them may
+    /// have run.
+    pub fn run_callbacks(&mut self, view: &View) -> Result<CallbackRun, NoMemory>
+        ensures run { IfOk result (λ run. (job : Job) → IsFlowOf job self.old → run ≡ callback_run (facts_of job) view.now (state_of self.old)) }
+        ensures leaves { OnOk result ((job : Job) → IsFlowOf job self.old → state_of self.new ≡ state_behind_callbacks (facts_of job) view.now (state_of self.old)) }
+        ensures begins { (job : Job) → IsFlowOf job self.old → IsAtBegin self.old → (view : View) → DoesRest view (job_walk job view (state_of self.new)) self.new }
+        ensures same_job { (job : Job) → IsFlowOf job self.old → IsFlowOf job self.new }
+    {
+        let place = self.cursor.place();
+        let run = self.run_registered(view);
+        self.cursor.move_to(place);
+        run
+    }
+
+    /// Runs the registered callbacks, and stays where the last one ends.
+    fn run_registered(&mut self, view: &View) -> Result<CallbackRun, NoMemory>
+        ensures run { IfOk result (λ run. (job : Job) → IsFlowOf job self.old → run ≡ callback_run (facts_of job) view.now (state_of self.old)) }
+        ensures leaves { OnOk result ((job : Job) → IsFlowOf job self.old → state_of self.new ≡ state_behind_callbacks (facts_of job) view.now (state_of self.old)) }
+        ensures stays { (job : Job) → IsFlowOf job self.old → Ran job self.old self.new }
+    {
+        let mut run = CallbackRun::new(self.alloc);
+        for at in 0..self.cursor.values().callbacks().len() {
+            if let Some(name) = self.cursor.values().callbacks().get(at) {
+                let name = name.copy()?;
+                let prints = self.run_callback(view, name.as_slice())?;
+                run.push(Called { name, prints })?;
+            }
+        }
+        Ok(run)
+    }
+
+    /// Runs the callback of a name, stays where it ends, and gives what it prints.
+    fn run_callback(&mut self, view: &View, name: &[u8]) -> Result<Prints, NoMemory>
+        ensures prints { IfOk result (λ prints. (job : Job) → IsFlowOf job self.old → record { name = name.now; prints = prints } ≡ called_of (facts_of job) view.now (state_of self.old) name.now) }
+        ensures leaves { OnOk result ((job : Job) → IsFlowOf job self.old → state_of self.new ≡ state_behind (facts_of job) view.now (state_of self.old) name.now) }
+        ensures stays { (job : Job) → IsFlowOf job self.old → Ran job self.old self.new }
+    {
+        let mut prints = Prints::new(self.alloc);
+        if let Some(part) = routine_of(self.routines.as_slice(), name) {
+            self.cursor.move_to(part.begin);
+            for _ in 0..part.count {
+                if self.at() != At::Plain {
+                    break;
+                }
+                if let Some(printed) = self.act(view)? {
+                    prints.push(printed)?;
+                }
+            }
+        }
+        Ok(prints)
+    }
+
     /// Takes the action of the next instruction.
     fn act(&mut self, view: &View) -> Result<Option<Printed>, NoMemory>
         requires { next_of self.old ≡ at.Plain }
@@ -286,6 +341,28 @@ fn restored_of(what: &Outward) -> Option<(MemberId, usize)>
         Outward::Restore { member, array, .. } => Some((*member, *array)),
         _ => None,
     }
+}
+
+/// Where the code of a callback begins, and how many statements it has.
+#[derive(Clone, Copy, Debug)]
+struct Part {
+    begin: usize,
+    count: usize,
+}
+
+/// The code of the callback of a name.
+fn routine_of(routines: &[Routine], name: &[u8]) -> Option<Part>
+    ensures { option_map (λ part. (part.begin, part.count)) result ≡ part_of (find (is_routine_of name.now) routines.now) }
+{
+    for routine in routines {
+        if routine.name.as_slice() == name {
+            return Some(Part {
+                begin: routine.begin,
+                count: routine.count,
+            });
+        }
+    }
+    None
 }
 
 /// Puts the code of the callbacks behind the code, and tells where each begins.
