@@ -82,3 +82,18 @@ pub from_begin : (job : Job) (flow : Flowing) (state : State) → IsFlowOf job f
 from_begin job flow state is at view =
     subst (λ (c : Stand). DoesRest view (job_walk job view state) (record flow { stand = c })) (sym at)
     (begins (facts_of job) flow.code flow.begin job.body is.is_code (declares job is.accepted) body_place is.accepted.body view state)
+
+-- ---- the rewind
+
+at_role : (job : Job) (old : Flowing) (c : Stand) (role : Role) → c ≡ start old.begin (kept_by role old.stand.state) → IsFlowOf job old → c ≡ start old.begin (at_init (facts_of job) role old.stand.state)
+at_role job old c role at of = at ∙ ap (λ (state : State). start old.begin state) (kept_at_init (facts_of job) role old.stand.state of.shaped)
+
+pub rewound_stays : (job : Job) (old : Flowing) (c : Stand) (role : Role) → c ≡ start old.begin (kept_by role old.stand.state) → IsFlowOf job old → IsFlowOf job (record old { stand = c })
+rewound_stays job old c role at of =
+    at_stand job old (record old { stand = c }) refl
+    (λ shaped. subst (λ (d : Stand). IsShaped job.names d.state) (sym (at_role job old c role at of)) (shaped_init (facts_of job) role old.stand.state shaped)) of
+
+pub rewound_begins : (job : Job) (old : Flowing) (c : Stand) (role : Role) → c ≡ start old.begin (kept_by role old.stand.state) → IsFlowOf job old
+    → (view : View) → DoesRest view (job_walk job view (at_init (facts_of job) role old.stand.state)) (record old { stand = c })
+rewound_begins job old c role at of view =
+    from_begin job (record old { stand = c }) (at_init (facts_of job) role old.stand.state) (rewound_stays job old c role at of) (at_role job old c role at of) view

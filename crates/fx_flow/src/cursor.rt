@@ -135,7 +135,7 @@ impl Cursor {
     }
 
     pub fn register(&mut self, name: &Bytes, next: usize) -> Result<(), NoMemory>
-        ensures ok { (view : View) → OnOk result (acts_on view self.old (Some (instr.Register name.now next)) ≡ Moves None self.new) }
+        ensures ok { OnOk result ((view : View) → acts_on view self.old (Some (instr.Register name.now next)) ≡ Moves None self.new) }
         ensures no_memory { OnErr result (self.new ≡ self.old) }
     {
         self.values.register(name)?;

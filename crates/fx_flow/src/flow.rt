@@ -220,7 +220,7 @@ impl Flow {
             self.cursor.move_to(part.begin);
             for _ in 0..part.count {
                 if self.at() != At::Plain {
-                    break;
+                    return Ok(prints);
                 }
                 if let Some(printed) = self.act(view)? {
                     prints.push(printed)?;
