@@ -1,6 +1,6 @@
 -- An outward statement that is answered goes on as the walk does.
 use Rattle.std.proofs.Common.{◌≡◌, ℕ, suc, List, [], length, Option, Some, None, refl, ap, sym, subst, ◌∙◌}
-use Rattle.std.specs.Prelude.{ℤ}
+use Rattle.std.specs.Prelude.{ℤ, IsSomeAnd}
 use Rattle.std.specs.FinMap.{FinMap}
 use Rattle.std.specs.Ordering.{nat_cmp}
 use Rattle.fx_base.specs.declared.names.MemberId.{MemberId}
@@ -12,7 +12,7 @@ use Rattle.fx_value.proofs.Shapes.{shaped_counter, shaped_array}
 use Rattle.fx_flow.specs.declared.instr.Outward.{Outward}
 use Rattle.fx_flow.specs.declared.instr.Outward.TheVariants as outward
 use Rattle.fx_flow.specs.Code.{Stand}
-use Rattle.fx_flow.specs.Flowing.{Flowing, outward_of, counter_of, target_of, restored_of, DoesRest, WasAnswered, IsFlowOf}
+use Rattle.fx_flow.specs.Flowing.{Flowing, TakesElements, outward_of, counter_of, target_of, restored_of, DoesRest, WasAnswered, IsFlowOf}
 use Rattle.fx_flow.specs.Outward.{array_at, taken_by, takes_number, takes_elements, takes_entries}
 use Rattle.fx_flow.proofs.Kept.{at_stand, length_restored}
 use Rattle.fx_flow.proofs.Went.{answered}
@@ -94,3 +94,14 @@ pub place_stays : (old : Flowing) (c : Stand) (next : ℕ) → c ≡ record old.
 place_stays old c next at job of =
     subst (λ (d : Stand). IsFlowOf job (record old { stand = d })) (sym at)
     (at_stand job old (record old { stand = record old.stand { place = next } }) refl (λ shaped. shaped) of)
+
+-- as many elements as the array has
+fits_by : (state : State) (target count : ℕ) (t : Option ℕ) → Some target ≡ t → IsSomeAnd t (λ array. count ≡ length (array_at state array)) → count ≡ length (array_at state target)
+fits_by state target count None e h = absurd cc
+fits_by state target count (Some array) e h = let same : target ≡ array = cc in rw same h
+
+pub elements_fit : (state : State) (due : Option (Outward × ℕ)) (pair : Outward × ℕ) (target count : ℕ) → Some pair ≡ due → Some target ≡ target_of pair.0 → TakesElements state due count → count ≡ length (array_at state target)
+elements_fit state None pair target count e is h = absurd cc
+elements_fit state (Some d) pair target count e is h =
+    let same : pair ≡ d = cc in
+    fits_by state target count (target_of d.0) (is ∙ ap (λ (q : Outward × ℕ). target_of q.0) same) h

@@ -1,6 +1,8 @@
 -- The code of a job with that of its callbacks.
-use Rattle.std.proofs.Common.{◌≡◌, ◌<◌, ℕ, suc, ◌+◌, List, [], ◌∷◌, ◌++◌, length, take, get_or, append_assoc, Some, refl, ap, sym, subst, ◌∙◌, add-one, Result, Ok, Err, IfOk, OnOk}
+use Rattle.std.proofs.Common.{◌≡◌, ◌<◌, ℕ, suc, ◌+◌, List, [], ◌∷◌, ◌++◌, length, take, drop, drop-cons, get_or, true, append_assoc, Some, refl, ap, sym, subst, ◌∙◌, add-one, Result, Ok, Err, IfOk, OnOk}
 use Rattle.std.specs.Prelude.{slice_get}
+use Rattle.std.specs.List.{find}
+use Rattle.std.specs.Str.{bytes_eq}
 use Rattle.std.proofs.lemmas.List.{append-nil}
 use Rattle.std.proofs.Math.Seq.{take-suc}
 use Rattle.fx_script.specs.declared.job.Callback.{Callback}
@@ -14,7 +16,7 @@ use Rattle.fx_flow.specs.declared.instr.Instr.TheVariants as instr
 use Rattle.fx_flow.specs.declared.instr.Routine.{Routine}
 use Rattle.fx_flow.specs.Code.{IsCode, Leads, start}
 use Rattle.fx_flow.specs.Emits.{Emits, Grows}
-use Rattle.fx_flow.specs.Flowing.{AreRoutines, IsFlowOf, IsRoutine}
+use Rattle.fx_flow.specs.Flowing.{AreRoutines, IsFlowOf, IsRoutine, is_routine_of, part_of}
 use Rattle.fx_flow.proofs.Emitted.{get_grown, grown}
 
 -- ---- code that grows
@@ -79,3 +81,12 @@ flow_made job a b c begin routines parts one emits grew are =
       are_routines = are second;
       shaped = shaped_blank job.names;
     }
+
+-- ---- the routine of a name
+
+pub found_here : (name : List ℕ) (routines : List Routine) (i : ℕ) (routine : Routine) → i < length routines → routine ≡ get_or routines i routine → bytes_eq routine.name name ≡ true
+    → find (is_routine_of name) (drop i routines) ≡ find (is_routine_of name) routines → Some (routine.begin, routine.count) ≡ part_of (find (is_routine_of name) routines)
+found_here name routines i routine within at test same =
+    let front : drop i routines ≡ routine ∷ drop (suc i) routines = drop-cons routines i routine within ∙ ap (λ (r : Routine). r ∷ drop (suc i) routines) (sym at) in
+    let there : find (is_routine_of name) (routine ∷ drop (suc i) routines) ≡ Some routine = rw test refl in
+    ap part_of (sym there ∙ ap (find (is_routine_of name)) (sym front) ∙ same)

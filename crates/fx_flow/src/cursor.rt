@@ -1,6 +1,6 @@
 ghost use Rattle.std.specs.Prelude.{◌≡◌, ◌<◌, ◌-◌, suc, pos, true, Some, None, IfOk, OnOk, OnErr, if◌then◌else◌};
 ghost use Rattle.fx_check.specs.Rules.{count_of};
-ghost use Rattle.fx_walk.specs.declared.action.View.{View};
+ghost use Rattle.fx_walk.specs.State.{with_callback};
 ghost use Rattle.fx_walk.specs.Values.{holds};
 ghost use Rattle.fx_walk.specs.Walk.{Elements, Entries, Number, is_same_role};
 ghost use Rattle.fx_value.specs.Shape.{blank_of, kept_by};
@@ -135,7 +135,7 @@ impl Cursor {
     }
 
     pub fn register(&mut self, name: &Bytes, next: usize) -> Result<(), NoMemory>
-        ensures ok { OnOk result ((view : View) → acts_on view self.old (Some (instr.Register name.now next)) ≡ Moves None self.new) }
+        ensures ok { OnOk result (self.new ≡ record self.old { place = next; state = with_callback self.old.state name.now }) }
         ensures no_memory { OnErr result (self.new ≡ self.old) }
     {
         self.values.register(name)?;
