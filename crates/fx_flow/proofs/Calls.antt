@@ -66,11 +66,10 @@ ran_one f code view whole rest s from now prints place opened printed next decla
       rules = lines_behind (stmt_lines f s (callback_place running.before)) (callback_body_lines f (running.before + 1) rest) running.rules;
       printed = append_assoc prints (told takes.printed) (prints_of (outputs (walk_of f rest view takes.now) [])) ∙ ap (λ (l : List Printed). prints ++ l) (sym first) ∙ running.printed;
       leaves = ap state_at (sym last) ∙ running.leaves;
-    } in
-    (
+    } in (
       ap (λ (c : Stand). c.opened) (sym there),
       subst (λ (c : Stand). Running f code view whole rest from c.state (prints ++ told printed) c.place) there
-      (subst (λ (p : Option Printed). Running f code view whole rest from takes.now (prints ++ told p) goes.0) alike own),
+          (subst (λ (p : Option Printed). Running f code view whole rest from takes.now (prints ++ told p) goes.0) alike own),
     )
 
 -- nothing is left

@@ -116,8 +116,7 @@ turning f code counter last body inside k a m os end inner after (suc n) value d
     let here : last - n ≡ value = omega (arith, sum) in
     let more : (left : ℕ) → n ≡ suc left → (value + 1) + left ≡ last = λ left e. omega (arith, sum, e) in
     let back : From code (looped f counter body n (value + 1) inside k) 0 (loop ∷ os) =
-    (λ view state. turning f code counter last body inside k a m os end inner after n (value + 1) more view state (stand 0 (loop ∷ os) state) (does code view (stand 0 (loop ∷ os) state) instr.End end)) in
-    (
+    (λ view state. turning f code counter last body inside k a m os end inner after n (value + 1) more view state (stand 0 (loop ∷ os) state) (does code view (stand 0 (loop ∷ os) state) instr.End end)) in (
       stand a (loop ∷ os) (with_counter f state counter (pos value)),
       is ∙ ap (λ (v : ℕ). goes a (loop ∷ os) (with_counter f state counter (pos v))) here,
       inner (looped f counter body n (value + 1) inside k) (loop ∷ os) back view (with_counter f state counter (pos value)),
@@ -178,7 +177,7 @@ leads f code end declares (DoesWhen {p} {a} {m} {q} {ss} spot role body is withi
       _,
       does code view (stand p os state) _ is,
       chosen code (is_same_role role view.role) (walks f body true (walks f ss inside k)) (walks f ss inside k) a m os
-      (leads f code end declares within (inside_when place) own.1 true (walks f ss inside k) os rest) rest view state,
+          (leads f code end declares within (inside_when place) own.1 true (walks f ss inside k) os rest) rest view state,
     ))
 leads f code end declares (DoesIf {p} {a} {b} {m} {q} {ss} spot test left right body other is within outside next) place keep inside k os from =
     let s = stmt.Branch spot test left right body (Some other) in
@@ -190,8 +189,8 @@ leads f code end declares (DoesIf {p} {a} {b} {m} {q} {ss} spot test left right 
       _,
       does code view (stand p os state) _ is ∙ tested f code test left right a b os view state,
       chosen code (holds test (value_of f left (sight view state)) (value_of f right (sight view state))) (walks f body inside (walks f ss inside k)) (walks f other inside (walks f ss inside k)) a b os
-      (leads f code end declares within (inside_if place) (lines_front _ _ own.1) inside (walks f ss inside k) os rest)
-      (leads f code end declares outside (inside_if place) (lines_behind _ _ own.1) inside (walks f ss inside k) os rest) view state,
+          (leads f code end declares within (inside_if place) (lines_front _ _ own.1) inside (walks f ss inside k) os rest)
+          (leads f code end declares outside (inside_if place) (lines_behind _ _ own.1) inside (walks f ss inside k) os rest) view state,
     ))
 leads f code end declares (DoesIfAlone {p} {a} {m} {q} {ss} spot test left right body is within next) place keep inside k os from =
     let s = stmt.Branch spot test left right body None in
@@ -203,7 +202,7 @@ leads f code end declares (DoesIfAlone {p} {a} {m} {q} {ss} spot test left right
       _,
       does code view (stand p os state) _ is ∙ tested f code test left right a m os view state,
       chosen code (holds test (value_of f left (sight view state)) (value_of f right (sight view state))) (walks f body inside (walks f ss inside k)) (walks f ss inside k) a m os
-      (leads f code end declares within (inside_if place) (lines_front _ [] own.1) inside (walks f ss inside k) os rest) rest view state,
+          (leads f code end declares within (inside_if place) (lines_front _ [] own.1) inside (walks f ss inside k) os rest) rest view state,
     ))
 leads f code end declares (DoesFor {p} {a} {m} {q} {ss} spot counter first last body greatest is fits within next) place keep inside k os from =
     let s = stmt.Loop spot counter first last body in
@@ -216,16 +215,19 @@ leads f code end declares (DoesFor {p} {a} {m} {q} {ss} spot counter first last 
     let from_value = value_of f first (sight view state) in
     subst (λ (l : ℤ). Follows code (looped f counter (walks f body) (turns_of from_value l) (count_of from_value) inside (walks f ss inside k) view state) view (stand p os state)) (sym is_last)
     (turning f code counter greatest (walks f body) inside (walks f ss inside k) a m os end (λ k os from. leads f code end declares within (inside_for place) own.1 inside k os from) rest
-        (suc greatest - count_of from_value) (count_of from_value) (turns_due (count_of from_value) greatest) view state (stand p os state)
-        (does code view (stand p os state) _ is ∙ ap (λ (n : ℤ). tests (counter_slot f.names counter) greatest a m (suc greatest - count_of n) os state) (term_value-term_of f first (sight view state)))))
+    (suc greatest - count_of from_value) (count_of from_value) (turns_due (count_of from_value) greatest) view state (stand p os state)
+    (does code view (stand p os state) _ is ∙ ap (λ (n : ℤ). tests (counter_slot f.names counter) greatest a m (suc greatest - count_of n) os state) (term_value-term_of f first (sight view state)))))
 leads f code end declares (DoesOutward {p} {m} {q} {ss} spot x s what is_rolled asks is next) place keep inside k os from =
     let rest = leads f code end declares next place (lines_behind (stmt_lines f s place) (lines_at (map (stmt_lines f) ss) place) keep) inside k os from in
     let own = first_line f x s is_rolled place (lines_front (stmt_lines f s place) (lines_at (map (stmt_lines f) ss) place) keep) in
     opened f code x s is_rolled inside (walks f ss inside k) p os
-    (λ view state. subst (λ (w : Walk). Follows code w view (stand p os state)) (sym (asks declares place own inside (walks f ss inside k) view state))
-    (does code view (stand p os state) _ is, refl, λ reply.
-        subst (λ (c : Stand). Follows code (walks f ss inside k (view_after view reply) (taken_by what state reply.given)) (view_after view reply) c) (sym (ap (takes_on (stand p os state) reply.given) is))
-        (rest (view_after view reply) (taken_by what state reply.given))))
+    (λ view state. subst (λ (w : Walk). Follows code w view (stand p os state)) (sym (asks declares place own inside (walks f ss inside k) view state)) (
+      does code view (stand p os state) _ is,
+      refl,
+      λ reply.
+          subst (λ (c : Stand). Follows code (walks f ss inside k (view_after view reply) (taken_by what state reply.given)) (view_after view reply) c) (sym (ap (takes_on (stand p os state) reply.given) is))
+          (rest (view_after view reply) (taken_by what state reply.given)),
+    ))
 
 -- from its beginning the code of a body follows the body's walk
 pub begins : (f : Facts) (code : List Instr) (begin : ℕ) (body : List Stmt) → IsCode f code begin body → DeclaresMembers f → (place : Surroundings) → KeepRules (stmts_lines f body place) → (view : View) (state : State)

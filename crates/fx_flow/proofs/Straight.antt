@@ -47,9 +47,9 @@ opened_walk f x s is k view state = ap (λ (m : Meaning). m false k view state) 
 may_stand : (f : Facts) (x : Stmt-F Stmt) (s : Stmt) → roll-Stmt x ≡ s → (n : ℕ) (behind : List Line) → KeepRules (stmt_lines f s (callback_place n) ++ behind) → may_stand_in_callback x ≡ true
 may_stand f x s is n behind keep =
     not_not (may_stand_in_callback x) (first_line f x s is (callback_place n) (lines_front (stmt_lines f s (callback_place n)) behind keep)).placed where
-  not_not : (b : Bool) → not (not b) ≡ true → b ≡ true
-  not_not true h = refl
-  not_not false h = absurd cc
+      not_not : (b : Bool) → not (not b) ≡ true → b ≡ true
+      not_not true h = refl
+      not_not false h = absurd cc
 
 -- a let and a print ask nothing
 no_outward : (f : Facts) (x : Stmt-F Stmt) (spot : Spot) (what : Outward) → DeclaresMembers f → AsksAs f x spot what → (p : Surroundings) → KeepsRules (stmt_line f p x) → may_stand_in_callback x ≡ true → View → State → ⊥

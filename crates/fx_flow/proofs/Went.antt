@@ -98,11 +98,11 @@ is_outward other due e = absurd cc
 pub asked : (view : View) (flow : Flowing) (what : Outward) (next : ℕ) → outward_of flow ≡ Some (what, next) → (walk : Walk) → DoesRest view walk flow → AsksFor walk (wanted_by what view flow.stand.state)
 asked view flow what next due walk does =
     by_walk walk does (ap (acts_on view flow.stand) (is_outward (slice_get flow.code flow.stand.place) (what, next) due)) where
-  by_walk : (walk : Walk) → DoesRest view walk flow → acts flow.code view flow.stand ≡ Waits (wanted_by what view flow.stand.state) → AsksFor walk (wanted_by what view flow.stand.state)
-  by_walk (Ends state) does is = let e : Over ≡ Waits (wanted_by what view flow.stand.state) = sym does.0 ∙ is in absurd cc
-  by_walk (Passes rest) does is = let e : Moves None does.0 ≡ Waits (wanted_by what view flow.stand.state) = sym does.1 ∙ is in absurd cc
-  by_walk (Prints printed rest) does is = let e : Moves (Some printed) does.0 ≡ Waits (wanted_by what view flow.stand.state) = sym does.1 ∙ is in absurd cc
-  by_walk (Asks place wanted state rest) does is = let e : Waits (wanted_by what view flow.stand.state) ≡ Waits wanted = sym is ∙ does.0 in cc
+      by_walk : (walk : Walk) → DoesRest view walk flow → acts flow.code view flow.stand ≡ Waits (wanted_by what view flow.stand.state) → AsksFor walk (wanted_by what view flow.stand.state)
+      by_walk (Ends state) does is = let e : Over ≡ Waits (wanted_by what view flow.stand.state) = sym does.0 ∙ is in absurd cc
+      by_walk (Passes rest) does is = let e : Moves None does.0 ≡ Waits (wanted_by what view flow.stand.state) = sym does.1 ∙ is in absurd cc
+      by_walk (Prints printed rest) does is = let e : Moves (Some printed) does.0 ≡ Waits (wanted_by what view flow.stand.state) = sym does.1 ∙ is in absurd cc
+      by_walk (Asks place wanted state rest) does is = let e : Waits (wanted_by what view flow.stand.state) ≡ Waits wanted = sym is ∙ does.0 in cc
 
 -- what it is answered leads on as the walk has it
 pub answered : (old new : Flowing) (what : Outward) (next : ℕ) (given : Given) → outward_of old ≡ Some (what, next)
@@ -110,14 +110,15 @@ pub answered : (old new : Flowing) (what : Outward) (next : ℕ) (given : Given)
     → (view : View) (walk : Walk) (latest : List ℤ) → DoesRest view walk old → WasAnswered view walk (record { given = given; latest = latest }) new
 answered old new what next given due same view walk latest does =
     by_walk walk does (ap (acts_on view old.stand) here) where
-  here : slice_get old.code old.stand.place ≡ Some (instr.Outward what next)
-  here = is_outward (slice_get old.code old.stand.place) (what, next) due
-  by_walk : (walk : Walk) → DoesRest view walk old → acts old.code view old.stand ≡ Waits (wanted_by what view old.stand.state) → WasAnswered view walk (record { given = given; latest = latest }) new
-  by_walk (Ends state) does is = let e : Over ≡ Waits (wanted_by what view old.stand.state) = sym does.0 ∙ is in absurd cc
-  by_walk (Passes rest) does is = let e : Moves None does.0 ≡ Waits (wanted_by what view old.stand.state) = sym does.1 ∙ is in absurd cc
-  by_walk (Prints printed rest) does is = let e : Moves (Some printed) does.0 ≡ Waits (wanted_by what view old.stand.state) = sym does.1 ∙ is in absurd cc
-  by_walk (Asks place wanted state rest) does is =
-      let reply : Reply = record { given = given; latest = latest } in
-      let there : Follows old.code (rest reply) (view_after view reply) (record old.stand { place = next; state = taken_by what old.stand.state given }) =
-      subst (λ (c : Stand). Follows old.code (rest reply) (view_after view reply) c) (ap (takes_on old.stand given) here) (does.2 reply) in
-      subst (λ (f : Flowing). DoesRest (view_after view reply) (rest reply) f) (sym same) there
+      here : slice_get old.code old.stand.place ≡ Some (instr.Outward what next)
+      here = is_outward (slice_get old.code old.stand.place) (what, next) due
+
+      by_walk : (walk : Walk) → DoesRest view walk old → acts old.code view old.stand ≡ Waits (wanted_by what view old.stand.state) → WasAnswered view walk (record { given = given; latest = latest }) new
+      by_walk (Ends state) does is = let e : Over ≡ Waits (wanted_by what view old.stand.state) = sym does.0 ∙ is in absurd cc
+      by_walk (Passes rest) does is = let e : Moves None does.0 ≡ Waits (wanted_by what view old.stand.state) = sym does.1 ∙ is in absurd cc
+      by_walk (Prints printed rest) does is = let e : Moves (Some printed) does.0 ≡ Waits (wanted_by what view old.stand.state) = sym does.1 ∙ is in absurd cc
+      by_walk (Asks place wanted state rest) does is =
+          let reply : Reply = record { given = given; latest = latest } in
+          let there : Follows old.code (rest reply) (view_after view reply) (record old.stand { place = next; state = taken_by what old.stand.state given }) =
+          subst (λ (c : Stand). Follows old.code (rest reply) (view_after view reply) c) (ap (takes_on old.stand given) here) (does.2 reply) in
+          subst (λ (f : Flowing). DoesRest (view_after view reply) (rest reply) f) (sym same) there

@@ -84,12 +84,8 @@ fn combined(op: Op, one: i64, other: i64) -> i64
 {
     match op {
         Op::Sum => one.wrapping_add(other),
-        Op::Min => {
-            if other < one { other } else { one }
-        }
-        Op::Max => {
-            if one < other { other } else { one }
-        }
+        Op::Min => { if other < one { other } else { one } }
+        Op::Max => { if one < other { other } else { one } }
     }
 }
 
@@ -125,11 +121,7 @@ fn is_selected(selection: &Selection, index: u32) -> bool
 }
 
 /// The selected elements, each at its index.
-fn selected(
-    alloc: Global,
-    selection: &Selection,
-    elements: &[i64],
-) -> Result<Sparse, NoMemory>
+fn selected(alloc: Global, selection: &Selection, elements: &[i64]) -> Result<Sparse, NoMemory>
     ensures { IfOk result (λ made. made ≡ selected selection.now elements.now) }
 {
     let mut made = Sparse::new(alloc);

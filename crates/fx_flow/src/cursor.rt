@@ -185,12 +185,7 @@ impl Cursor {
     }
 
     /// The first test of a loop, whose turns are still to be set.
-    pub fn begin_loop(
-        &mut self,
-        view: &View,
-        first: &Formula,
-        turn: Loop,
-    ) -> Result<(), NoMemory>
+    pub fn begin_loop(&mut self, view: &View, first: &Formula, turn: Loop) -> Result<(), NoMemory>
         ensures ok { OnOk result (acts_on view.now self.old (Some (instr.For turn.counter first.now turn.last turn.inside turn.next)) ≡ Moves None self.new) }
         ensures no_memory { OnErr result (self.new ≡ self.old) }
     {

@@ -233,7 +233,15 @@ fn emit_stmt(
                 }
                 Some(no) => {
                     let next = emit_stmts(alloc, job, code, no.as_slice(), after)?;
-                    put_if(alloc, job.names(), code, *test, left, right, Fork { inside, next })
+                    put_if(
+                        alloc,
+                        job.names(),
+                        code,
+                        *test,
+                        left,
+                        right,
+                        Fork { inside, next },
+                    )
                 }
             }
         }
@@ -249,7 +257,15 @@ fn emit_stmt(
                 inside,
                 next: after,
             };
-            put_for(alloc, job.names(), code, counter, first, last_of(last), fork)
+            put_for(
+                alloc,
+                job.names(),
+                code,
+                counter,
+                first,
+                last_of(last),
+                fork,
+            )
         }
         Stmt::Barrier { .. } => put_outward(code, Outward::Barrier, after),
         Stmt::Reduce {

@@ -246,19 +246,23 @@ impl Flow {
                 self.cursor.compute_array(view, *array, value, *next)?;
                 Ok(None)
             }
-            Some(Instr::Set {
-                counter,
-                value,
-                next,
-            }) => {
+            Some(
+                Instr::Set {
+                    counter,
+                    value,
+                    next,
+                },
+            ) => {
                 self.cursor.compute_counter(view, *counter, value, *next);
                 Ok(None)
             }
-            Some(Instr::Print {
-                name,
-                variable,
-                next,
-            }) => {
+            Some(
+                Instr::Print {
+                    name,
+                    variable,
+                    next,
+                },
+            ) => {
                 let printed = self.cursor.printed(self.alloc, name, *variable)?;
                 self.cursor.move_to(*next);
                 Ok(Some(printed))
@@ -271,23 +275,28 @@ impl Flow {
                 self.cursor.enter(view, *role, *inside, *next);
                 Ok(None)
             }
-            Some(Instr::If {
-                test,
-                left,
-                right,
-                chosen,
-                other,
-            }) => {
-                self.cursor.choose(view, *test, left, right, *chosen, *other);
+            Some(
+                Instr::If {
+                    test,
+                    left,
+                    right,
+                    chosen,
+                    other,
+                },
+            ) => {
+                self.cursor
+                    .choose(view, *test, left, right, *chosen, *other);
                 Ok(None)
             }
-            Some(Instr::For {
-                counter,
-                first,
-                last,
-                inside,
-                next,
-            }) => {
+            Some(
+                Instr::For {
+                    counter,
+                    first,
+                    last,
+                    inside,
+                    next,
+                },
+            ) => {
                 let turn = Loop {
                     counter: *counter,
                     last: *last,

@@ -5,8 +5,8 @@ pub returns-in-Strided : goal.returns-in-Strided
 returns-in-Strided c =
     rw (c.in-Strided.is)
     (blocks_made c.blocks_within.result c.args.len c.in-Strided.blocks c.in-Strided.start c.in-Strided.end c.in-Strided.stride
-        c.low_32.result c.low_32-in-Strided.result c.low_32-in-Strided-2.result c.low_32-in-Strided-3.result
-        c.low_32.ensures c.low_32-in-Strided.ensures c.low_32-in-Strided-2.ensures c.low_32-in-Strided-3.ensures c.blocks_within.ensures)
+    c.low_32.result c.low_32-in-Strided.result c.low_32-in-Strided-2.result c.low_32-in-Strided-3.result
+    c.low_32.ensures c.low_32-in-Strided.ensures c.low_32-in-Strided-2.ensures c.low_32-in-Strided-3.ensures c.blocks_within.ensures)
 
 pub returns-in_ok-pairs-in-Ranges : goal.returns-in_ok-pairs-in-Ranges
 returns-in_ok-pairs-in-Ranges c =
