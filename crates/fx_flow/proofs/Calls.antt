@@ -1,5 +1,5 @@
 -- A callback that runs prints what its walk prints, and leaves the state that its walk leaves.
-use Rattle.std.proofs.Common.{◌≡◌, ℕ, suc, ◌+◌, List, [], ◌∷◌, ◌++◌, append_assoc, Option, Some, None, refl, ap, sym, subst, ◌∙◌}
+use Rattle.std.proofs.Common.{◌≡◌, ℕ, ◌+◌, false, List, [], ◌∷◌, ◌++◌, append_assoc, Option, Some, None, refl, ap, sym, subst, ◌∙◌}
 use Rattle.std.proofs.lemmas.List.{append-nil}
 use Rattle.fx_script.specs.declared.job.Stmt.{Stmt}
 use Rattle.fx_check.specs.Acceptance.{stmt_lines, callback_body_lines}

@@ -1,9 +1,8 @@
-use Rattle.std.proofs.Common.{rules, ◌≡◌, refl, sym, ap, subst, ◌∙◌, ◌++◌, ◌-◌, suc, List, ◌∷◌, [], length, drop, ◌≤◌, ◌<◌, arith, IfOk, Some}
+use Rattle.std.proofs.Common.{◌≡◌, sym, ◌-◌, suc, length, ◌<◌, arith}
 use Rattle.fx_script.specs.declared.job.Stmt.TheOpen.{Stmt-F}
 use Rattle.fx_script.specs.declared.job.Stmt.TheVariants as stmt
 use Rattle.fx_check.specs.Facts.{facts_of}
 use Rattle.fx_flow.specs.declared.instr.Outward.TheVariants as outward
-use Rattle.fx_flow.specs.Emits.{Emits, Puts}
 use Rattle.fx_flow.specs.Code.{Nothing, DoesLet, DoesSet, DoesPrint, DoesRegister, DoesWhen, DoesFor, DoesIf, DoesIfAlone, DoesOutward}
 use Rattle.fx_flow.proofs.Asks.{barrier_asks, commit_asks, close_asks}
 use Rattle.fx_flow.proofs.Emitted.{if_ok, puts_on, puts_one, put_behind, twice, step, at_end}

@@ -1,5 +1,4 @@
-use Rattle.std.proofs.Common.{◌≡◌, ◌<◌, length, arith}
-use Rattle.fx_script.specs.declared.job.Callback.{Callback}
+use Rattle.std.proofs.Common.{◌<◌, length, arith}
 use Rattle.fx_check.specs.Facts.{facts_of}
 use Rattle.fx_flow.specs.declared.instr.Routine.{Routine}
 use Rattle.fx_flow.proofs.Made.{grows_on, one_made}

@@ -1,4 +1,4 @@
-use Rattle.std.proofs.Common.{◌≡◌, ◌∙◌, sym}
+use Rattle.std.proofs.Common.{◌∙◌, sym}
 use Rattle.fx_flow.proofs.Made.{found_here}
 use Rattle.fx_flow.proofs.flow.routine_of.Goals as goal
 

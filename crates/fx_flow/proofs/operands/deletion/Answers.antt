@@ -1,4 +1,3 @@
-use Rattle.std.proofs.Common.{◌≡◌, sym}
 use Rattle.fx_flow.proofs.Asks.{drop_asks}
 use Rattle.fx_flow.proofs.operands.deletion.Goals as goal
 

@@ -1,5 +1,4 @@
 use Rattle.std.proofs.Common.{◌≡◌, ℕ, length}
-use Rattle.std.specs.Prelude.{slice_get}
 use Rattle.fx_flow.specs.declared.instr.Outward.{Outward}
 use Rattle.fx_flow.specs.Flowing.{Flowing, outward_of}
 use Rattle.fx_flow.specs.Outward.{array_at}

@@ -1,4 +1,4 @@
-use Rattle.std.proofs.Common.{◌≡◌, ◌∙◌, ap, ◌++◌, ◌∷◌, [], List}
+use Rattle.std.proofs.Common.{◌∙◌, ap, ◌++◌, ◌∷◌, [], List}
 use Rattle.fx_value.specs.Shape.{blank_of}
 use Rattle.fx_flow.specs.declared.instr.Instr.{Instr}
 use Rattle.fx_flow.specs.declared.instr.Instr.TheVariants as instr
