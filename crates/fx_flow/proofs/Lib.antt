@@ -1,0 +1,12 @@
+pub mod Following
+pub mod Declared
+pub mod Emitted
+pub mod Made
+pub mod Asks
+pub mod Selected
+pub mod Turns
+pub mod Went
+pub mod Kept
+pub mod Answered
+pub mod Straight
+pub mod Calls
