@@ -6,6 +6,7 @@ use Rattle.fx_io.specs.States.{SourceState, SinkState}
 use Rattle.fx_io.specs.Told.{Loses, IsAtEnd, Gains}
 use Rattle.fx_script.specs.declared.job.Job.{Job}
 use Rattle.fx_script.specs.Reading.{Refusal, reading, job_in}
+use Rattle.fx_script.specs.Spelling.{IsWritable}
 use Rattle.fx_script.proofs.CanonAlone.{canonical_alone}
 use Rattle.fx_script.proofs.Spelled.{is_read, job_found}
 use Rattle.fx_check.specs.Acceptance.{Refused, refusal_of}
@@ -15,10 +16,10 @@ use Rattle.fx_cli.specs.declared.mode.Mode.TheVariants as mode
 use Rattle.fx_cli.specs.declared.status.Refusal.TheVariants.{NotBuilt}
 use Rattle.fx_cli.specs.declared.status.Status.{Status}
 use Rattle.fx_cli.specs.declared.status.Status.TheVariants.{Done, BadWords, BadJob, ReadFault, WriteFault, NoMemory}
-use Rattle.fx_cli.specs.Built.{first_unbuilt, plan_of}
+use Rattle.fx_cli.specs.Built.{first_unbuilt}
 use Rattle.fx_cli.specs.Dues.{longest_job, mode_of, Input, WrongWords, TooLong, Whole, IsInput, Due, input_in, input_of, due_to, due_to_reading, due_to_job, due_to_accepted, due_to_run}
 use Rattle.fx_cli.specs.Ends.{Settles, Ends, Takes, IsRun, IsCheck, DoesWhatIsAsked, IsUnbuilt, IsGiven, IsUnlessCut, IsDoneUnlessCut}
-use Rattle.fx_cli.proofs.LegalJournal.{is_legal}
+use Rattle.fx_cli.proofs.Legality.{is_legal, all_ended}
 
 -- what came in, and what is due to it, written whole or in part
 pub ends_of : (words : List (List ℕ)) (source source' : SourceState) (sink sink' : SinkState) (input : Input) (s : Status) →
@@ -43,16 +44,17 @@ takes source source' text job is fine short read end = record {
 }
 
 -- a job that was done
-run_done : (sink sink' : SinkState) (job : Job) (o : Option Spot) → first_unbuilt job ≡ o →
+run_done : (sink sink' : SinkState) (job : Job) (o : Option Spot) → IsWritable job → first_unbuilt job ≡ o →
     Done ≡ (due_to_run job o).status → Gains sink.written sink'.written (due_to_run job o).output → IsRun job sink sink'
-run_done sink sink' job None built done gained = record { built = built; legal = is_legal (plan_of job); gained = gained }
-run_done sink sink' job (Some spot) built done gained = absurd cc
+run_done sink sink' job None writable built done gained =
+    record { built = built; legal = is_legal job writable built; ended = all_ended job writable built; gained = gained }
+run_done sink sink' job (Some spot) writable built done gained = absurd cc
 
 accepted_done : (source source' : SourceState) (sink sink' : SinkState) (asked : Mode) (job : Job) → Takes source source' job →
     Done ≡ (due_to_accepted asked job).status → Gains sink.written sink'.written (due_to_accepted asked job).output →
     DoesWhatIsAsked (Some asked) source source' sink sink'
 accepted_done source source' sink sink' mode.Run job taken done gained =
-    (job, taken, run_done sink sink' job (first_unbuilt job) refl done gained)
+    (job, taken, run_done sink sink' job (first_unbuilt job) taken.spelled.writable refl done gained)
 accepted_done source source' sink sink' mode.Check job taken done gained =
     (job, taken, record { alone = canonical_alone job record { text = taken.text; told = job; spelled = taken.spelled; same = refl }; gained = gained })
 
@@ -221,7 +223,8 @@ is_ran words source source' sink sink' Done e job given built =
     let due = given_is mode.Run words source source' job given e.0 e.1 ∙ ap (due_to_run job) built in
     record {
       built = built;
-      legal = is_legal (plan_of job);
+      legal = is_legal job given.spelled.writable built;
+      ended = all_ended job given.spelled.writable built;
       gained = subst (λ (d : Due). Gains sink.written sink'.written d.output) due e.3;
     }
 is_ran words source source' sink sink' BadWords e job given built =

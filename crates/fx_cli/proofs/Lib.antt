@@ -1,7 +1,8 @@
-pub mod LegalJournal
 pub mod Written
 pub mod Texts
 pub mod Marks
+pub mod Plain
+pub mod Legality
+pub mod Body
 pub mod Ending
 pub mod InMemory
-pub mod PrintedArrays

@@ -1,11 +1,10 @@
 -- The texts of lists of items.
-use Rattle.std.proofs.Common.{◌≡◌, ℕ, suc, ◌+◌, ◌<◌, List, [], ◌∷◌, ◌++◌, map, drop, get_or, length, refl, sym, ap, ◌∙◌, append_assoc, add-one, drop-cons}
-use Rattle.std.proofs.lemmas.List.{map-append}
-use Rattle.fx_script.specs.declared.job.Stmt.{Stmt}
-use Rattle.fx_cli.specs.declared.item.Item.{Item}
-use Rattle.fx_cli.specs.Built.{printed_by, printed_in}
-use Rattle.fx_cli.specs.Items.{ended_line, text_of}
-use Rattle.fx_cli.specs.Plan.{Named, Plan, print_of, opening, closing, journal_of}
+use Rattle.std.proofs.Common.{◌≡◌, ℕ, ◌+◌, ◌<◌, Bool, true, ◌&&◌, List, [], ◌∷◌, ◌++◌, drop, get_or, length, refl, sym, ap, ◌∙◌, append_assoc, add-one, drop-cons}
+use Rattle.std.specs.List.{list_all}
+use Rattle.std.proofs.lemmas.Bool.{and_parts}
+use Rattle.fx_item.specs.declared.item.Item.{Item}
+use Rattle.fx_script.specs.declared.job.Job.{Job}
+use Rattle.fx_cli.specs.Journal.{body_walk, closing, ended_line, journal_of, opening, text_of, walk_items}
 
 pub text_append : (a b : List Item) → text_of (a ++ b) ≡ text_of a ++ text_of b
 text_append [] b = refl
@@ -18,16 +17,7 @@ text_from items k item below is =
     ap text_of (drop-cons items k item below)
     ∙ rw (← is, add-one) refl
 
-pub prints_from : (arrays : List Named) (body : List Stmt) (k : ℕ) (s : Stmt) → k < length body → s ≡ get_or body k s →
-    text_of (map (print_of arrays) (printed_in (drop k body)))
-    ≡ text_of (map (print_of arrays) (printed_by s)) ++ text_of (map (print_of arrays) (printed_in (drop (k + 1) body)))
-prints_from arrays body k s below is =
-    ap (λ (b : List Stmt). text_of (map (print_of arrays) (printed_in b))) (drop-cons body k s below)
-    ∙ rw (← is, add-one) (
-    ap text_of (map-append (print_of arrays) (printed_by s) (printed_in (drop (suc k) body)))
-    ∙ text_append (map (print_of arrays) (printed_by s)) (map (print_of arrays) (printed_in (drop (suc k) body))))
-
-pub journal_text : (plan : Plan) → text_of (journal_of plan) ≡ text_of opening ++ (text_of (map (print_of plan.arrays) plan.printed) ++ text_of closing)
-journal_text plan =
-    text_append opening (map (print_of plan.arrays) plan.printed ++ closing)
-    ∙ ap (λ (l : List ℕ). text_of opening ++ l) (text_append (map (print_of plan.arrays) plan.printed) closing)
+pub journal_text : (job : Job) → text_of (journal_of job) ≡ text_of opening ++ (text_of (walk_items (body_walk job)) ++ text_of closing)
+journal_text job =
+    text_append opening (walk_items (body_walk job) ++ closing)
+    ∙ ap (λ (l : List ℕ). text_of opening ++ l) (text_append (walk_items (body_walk job)) closing)

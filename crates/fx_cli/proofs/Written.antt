@@ -14,10 +14,8 @@ use Rattle.fx_check.specs.Acceptance.{Refused}
 use Rattle.fx_cli.specs.declared.status.Refusal.{Refusal}
 use Rattle.fx_cli.specs.declared.status.Refusal.TheVariants.{Static}
 use Rattle.fx_cli.specs.Answers.{refusal_line}
-use Rattle.fx_cli.specs.Built.{plan_of}
 use Rattle.fx_cli.specs.Dues.{due_refusal, due_to_job, due_to_run}
-use Rattle.fx_cli.specs.Items.{text_of}
-use Rattle.fx_cli.specs.Plan.{journal_of}
+use Rattle.fx_cli.specs.Journal.{journal_of, text_of}
 use Rattle.fx_cli.specs.Ends.{Settles, settled}
 
 -- a refusal's line, and its status
@@ -36,8 +34,8 @@ settles_done output a b (Err put_end.NoMemory) p = p
 
 -- a journal, where each line can be run
 pub settles_run : (job : Job) (o : Option Spot) (a b : SinkState) (put : Result (Unit {0}) PutEnd) → o ≡ None →
-    Puts a b (text_of (journal_of (plan_of job))) put → Settles (due_to_run job o) a b (settled put status.Done)
-settles_run job None a b put e p = settles_done (text_of (journal_of (plan_of job))) a b put p
+    Puts a b (text_of (journal_of job)) put → Settles (due_to_run job o) a b (settled put status.Done)
+settles_run job None a b put e p = settles_done (text_of (journal_of job)) a b put p
 settles_run job (Some spot) a b put e p = absurd cc
 
 -- a job that breaks a rule, and the line of its refusal

@@ -14,9 +14,8 @@ use Rattle.fx_cli.specs.declared.status.Refusal.TheVariants.{TooBig, Text, Stati
 use Rattle.fx_cli.specs.declared.status.Status.{Status}
 use Rattle.fx_cli.specs.declared.status.Status.TheVariants.{Done, BadWords, BadJob}
 use Rattle.fx_cli.specs.Answers.{words_line, refusal_line}
-use Rattle.fx_cli.specs.Built.{first_unbuilt, plan_of}
-use Rattle.fx_cli.specs.Items.{text_of}
-use Rattle.fx_cli.specs.Plan.{journal_of}
+use Rattle.fx_cli.specs.Built.{first_unbuilt}
+use Rattle.fx_cli.specs.Journal.{journal_of, text_of}
 
 -- the most bytes that a job may have
 abbrev pub longest_job : ℕ
@@ -64,7 +63,7 @@ due_refusal refusal spot = record { status = BadJob refusal spot; output = refus
 
 -- the run of an accepted job: its journal, or the refusal of its first line that can't be run yet
 abbrev pub due_to_run : Job → Option Spot → Due
-due_to_run job None = record { status = Done; output = text_of (journal_of (plan_of job)) }
+due_to_run job None = record { status = Done; output = text_of (journal_of job) }
 due_to_run job (Some spot) = due_refusal NotBuilt spot
 
 -- an accepted job: its run, or its canonical text

@@ -15,11 +15,10 @@ use Rattle.fx_cli.specs.declared.mode.Mode.{Mode}
 use Rattle.fx_cli.specs.declared.mode.Mode.TheVariants as mode
 use Rattle.fx_cli.specs.declared.status.Status.{Status}
 use Rattle.fx_cli.specs.declared.status.Status.TheVariants.{Done, BadWords, BadJob, ReadFault, WriteFault, NoMemory}
-use Rattle.fx_cli.specs.Built.{first_unbuilt, plan_of}
+use Rattle.fx_cli.specs.Built.{first_unbuilt}
 use Rattle.fx_cli.specs.Dues.{longest_job, mode_of, Input, IsInput, Due, due_to}
-use Rattle.fx_cli.specs.Items.{text_of}
-use Rattle.fx_cli.specs.Legal.{IsLegal}
-use Rattle.fx_cli.specs.Plan.{journal_of}
+use Rattle.fx_cli.specs.Journal.{journal_of, text_of}
+use Rattle.fx_legal.specs.Legal.{IsLegalWhole, AllHaveEnded}
 
 -- what is due is written whole, with its status, or a front of it up to a fault or to want of memory
 abbrev pub Settles : Due → SinkState → SinkState → Status → Type 0
@@ -64,11 +63,13 @@ pub record Takes (source source' : SourceState) (job : Job) : Type 0 where
   pub spelled : Spells text job
   pub accepted : IsAccepted job
 
--- the run of a job: each of its lines can be run, its one journal is legal, and exactly the text of it was written
+-- the run of a job: each of its lines can be run, its one journal is legal and tells the whole schedule, its processes end in it, and
+-- exactly its text was written
 pub record IsRun (job : Job) (sink sink' : SinkState) : Type 0 where
   pub built : first_unbuilt job ≡ None
-  pub legal : IsLegal (plan_of job) (journal_of (plan_of job))
-  pub gained : Gains sink.written sink'.written (text_of (journal_of (plan_of job)))
+  pub legal : IsLegalWhole job (journal_of job)
+  pub ended : AllHaveEnded job (journal_of job)
+  pub gained : Gains sink.written sink'.written (text_of (journal_of job))
 
 -- the check of a job: exactly its canonical text was written, which spells it and, spots aside, no other job
 pub record IsCheck (job : Job) (sink sink' : SinkState) : Type 0 where

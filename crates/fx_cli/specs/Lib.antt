@@ -1,7 +1,5 @@
-pub mod Items
-pub mod Plan
-pub mod Legal
 pub mod Answers
 pub mod Built
+pub mod Journal
 pub mod Dues
 pub mod Ends

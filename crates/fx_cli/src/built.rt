@@ -1,8 +1,8 @@
 ghost use Rattle.std.specs.Prelude.{◌≡◌, map};
-ghost use Rattle.fx_cli.specs.Built.{callback_mark, decl_mark, event_mark, first_in, first_unbuilt, head_marks, is_print, stmt_mark};
+ghost use Rattle.fx_cli.specs.Built.{body_marks, event_mark, first_in, first_unbuilt, head_marks, stmt_marks};
 
 use fx_base::Spot;
-use fx_script::{Callback, Decl, Event, Job, Stmt};
+use fx_script::{Event, Job, Stmt};
 
 /// The place of the first line of an accepted job that can't be run yet.
 #[tactic(auto, using(crate::proofs::Marks::first_front, crate::proofs::Marks::first_back))]
@@ -12,13 +12,7 @@ pub fn first_unbuilt(job: &Job) -> Option<Spot>
     if let Some(spot) = first_head(job) {
         return Some(spot);
     }
-    if let Some(spot) = first_counter(job.names.as_slice()) {
-        return Some(spot);
-    }
-    if let Some(spot) = first_callback(job.callbacks.as_slice()) {
-        return Some(spot);
-    }
-    if let Some(spot) = first_stmt(job.body.as_slice()) {
+    if let Some(spot) = first_of_body(job.body.as_slice()) {
         return Some(spot);
     }
     first_event(job.events.as_slice())
@@ -36,42 +30,43 @@ fn first_head(job: &Job) -> Option<Spot>
     }
 }
 
-fn first_counter(names: &[Decl]) -> Option<Spot>
-    ensures { result ≡ first_in (map decl_mark names.now) }
-{
-    for decl in names {
-        if let Decl::Counter { spot, .. } = decl {
-            return Some(*spot);
-        }
-    }
-    None
-}
-
-fn first_callback(callbacks: &[Callback]) -> Option<Spot>
-    ensures { result ≡ first_in (map callback_mark callbacks.now) }
-{
-    Some(callbacks.first()?.spot)
-}
-
-fn first_stmt(body: &[Stmt]) -> Option<Spot>
-    ensures { result ≡ first_in (map stmt_mark body.now) }
+#[cycle(first_of_body)]
+fn first_of_body(body: &[Stmt]) -> Option<Spot>
+    ensures { result ≡ first_in (body_marks body.now) }
 {
     for statement in body {
-        if !is_print(statement) {
-            return Some(statement.spot());
+        let first = first_of(statement);
+        if first.is_some() {
+            return first;
         }
     }
     None
+}
+
+#[cycle(first_of_body)]
+fn first_of(statement: &Stmt) -> Option<Spot>
+    ensures { result ≡ first_in (stmt_marks statement.now) }
+{
+    match statement {
+        Stmt::Let { .. } | Stmt::Set { .. } | Stmt::Print { .. } | Stmt::Register { .. } => None,
+        Stmt::RoleOnly { body, .. } => first_of_body(body.as_slice()),
+        Stmt::Branch { yes, no, .. } => match no {
+            None => first_of_body(yes.as_slice()),
+            Some(no) => {
+                let first = first_of_body(yes.as_slice());
+                if first.is_some() {
+                    return first;
+                }
+                first_of_body(no.as_slice())
+            }
+        },
+        Stmt::Loop { body, .. } => first_of_body(body.as_slice()),
+        outward => Some(outward.spot()),
+    }
 }
 
 fn first_event(events: &[Event]) -> Option<Spot>
     ensures { result ≡ first_in (map event_mark events.now) }
 {
     Some(events.first()?.spot)
-}
-
-fn is_print(statement: &Stmt) -> bool
-    ensures { result ≡ is_print statement.now }
-{
-    matches!(statement, Stmt::Print { .. })
 }

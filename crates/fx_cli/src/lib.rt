@@ -3,9 +3,7 @@
 
 mod built;
 mod canon;
-mod item;
 pub mod laws;
-mod line;
 mod memory;
 mod mode;
 mod put;

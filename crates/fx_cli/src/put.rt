@@ -1,12 +1,13 @@
-ghost use Rattle.std.specs.Prelude.{◌≡◌};
+ghost use Rattle.std.specs.List.{list_all};
+ghost use Rattle.std.specs.Prelude.{◌≡◌, true};
 ghost use Rattle.fx_io.specs.Writing.{Puts};
-ghost use Rattle.fx_cli.specs.Items.{ended_line, text_of};
+ghost use Rattle.fx_lines.specs.Items.{is_writable};
+ghost use Rattle.fx_cli.specs.Journal.{ended_line, text_of};
 
-use crate::item::Item;
-use crate::line::line_of;
+use fx_base::Bytes;
 use fx_io::{PutEnd, Sink, write_whole};
-use fx_text::next_line;
-use std::alloc::Global;
+use fx_text::{end_line, next_line};
+use fx_trace::{Item, print_item};
 
 /// Writes a text, each line with its line end as one piece.
 pub fn put_lines<K: Sink>(text: &[u8], sink: &mut K) -> Result<(), PutEnd>
@@ -24,20 +25,24 @@ pub fn put_lines<K: Sink>(text: &[u8], sink: &mut K) -> Result<(), PutEnd>
     Ok(())
 }
 
-/// Writes the line of an item as one piece.
-pub fn put_item<K: Sink>(alloc: Global, item: &Item, sink: &mut K) -> Result<(), PutEnd>
+/// Writes the line of an item as one piece; `line` is room for it.
+pub fn put_item<K: Sink>(item: &Item, line: &mut Bytes, sink: &mut K) -> Result<(), PutEnd>
+    requires { is_writable item.now ≡ true }
     ensures { Puts (K.state sink.old) (K.state sink.new) (ended_line item.now) result }
 {
-    let line = line_of(alloc, item)?;
+    line.clear();
+    print_item(item, line)?;
+    end_line(line)?;
     write_whole(sink, line.as_slice())
 }
 
 /// Writes the lines of items, one after another.
-pub fn put_items<K: Sink>(alloc: Global, items: &[Item], sink: &mut K) -> Result<(), PutEnd>
+pub fn put_items<K: Sink>(items: &[Item], line: &mut Bytes, sink: &mut K) -> Result<(), PutEnd>
+    requires { list_all is_writable items.now ≡ true }
     ensures { Puts (K.state sink.old) (K.state sink.new) (text_of items.now) result }
 {
     for item in items {
-        put_item(alloc, item, sink)?;
+        put_item(item, line, sink)?;
     }
     Ok(())
 }

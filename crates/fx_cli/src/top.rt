@@ -14,7 +14,7 @@ use crate::mode::{Mode, mode_of};
 use crate::run::write_journal;
 use crate::status::{Refusal, Status, reason_of};
 use fx_base::{Bytes, NoMemory, Spot};
-use fx_check::{CheckJob, check_job};
+use fx_check::{Accepted, CheckJob, check_job};
 use fx_io::{PutEnd, Sink, Source, WholeEnd, read_whole, write_whole};
 use fx_script::{Job, ReadJob, read_job};
 use fx_text::push_number;
@@ -92,28 +92,29 @@ fn answer_job<K: Sink>(alloc: Global, mode: Mode, job: Job, sink: &mut K) -> Sta
     ensures { Settles (due_to_job mode job (refusal_of job)) (K.state sink.old) (K.state sink.new) result }
 {
     match check_job(alloc, job) {
-        Ok(accepted) => answer_accepted(alloc, mode, accepted.job(), sink),
+        Ok(accepted) => answer_accepted(alloc, mode, &accepted, sink),
         Err(CheckJob::Refused(fault, spot)) => refuse(alloc, Refusal::Static(fault), spot, sink),
         Err(CheckJob::NoMemory) => Status::NoMemory,
     }
 }
 
 // Answers an accepted job.
-fn answer_accepted<K: Sink>(alloc: Global, mode: Mode, job: &Job, sink: &mut K) -> Status
+fn answer_accepted<K: Sink>(alloc: Global, mode: Mode, job: &Accepted, sink: &mut K) -> Status
     requires { HasText job.now }
     ensures { Settles (due_to_accepted mode job.now) (K.state sink.old) (K.state sink.new) result }
 {
     match mode {
         Mode::Run => run(alloc, job, sink),
-        Mode::Check => settled(write_canonical(alloc, job, sink), Status::Done),
+        Mode::Check => settled(write_canonical(alloc, job.job(), sink), Status::Done),
     }
 }
 
 // Runs an accepted job, or refuses it at its first line that can't be run yet.
-fn run<K: Sink>(alloc: Global, job: &Job, sink: &mut K) -> Status
+fn run<K: Sink>(alloc: Global, job: &Accepted, sink: &mut K) -> Status
+    requires { HasText job.now }
     ensures { Settles (due_to_run job.now (first_unbuilt job.now)) (K.state sink.old) (K.state sink.new) result }
 {
-    match first_unbuilt(job) {
+    match first_unbuilt(job.job()) {
         Some(spot) => refuse(alloc, Refusal::NotBuilt, spot, sink),
         None => settled(write_journal(alloc, job, sink), Status::Done),
     }

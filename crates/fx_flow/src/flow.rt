@@ -177,59 +177,6 @@ impl Flow {
         self.cursor.rewind(self.begin, role);
     }
 
-    /// Runs the registered callbacks, in the order of registration, each from the state that the one
-    /// before left, and gives what each printed. The place stays. Without memory some of them may
-    /// have run.
-    pub fn run_callbacks(&mut self, view: &View) -> Result<CallbackRun, NoMemory>
-        ensures run { IfOk result (λ run. (job : Job) → IsFlowOf job self.old → run ≡ callback_run (facts_of job) view.now (state_of self.old)) }
-        ensures leaves { OnOk result ((job : Job) → IsFlowOf job self.old → state_of self.new ≡ state_behind_callbacks (facts_of job) view.now (state_of self.old)) }
-        ensures begins { (job : Job) → IsFlowOf job self.old → IsAtBegin self.old → (view : View) → DoesRest view (job_walk job view (state_of self.new)) self.new }
-        ensures same_job { (job : Job) → IsFlowOf job self.old → IsFlowOf job self.new }
-    {
-        let place = self.cursor.place();
-        let run = self.run_registered(view);
-        self.cursor.move_to(place);
-        run
-    }
-
-    /// Runs the registered callbacks, and stays where the last one ends.
-    fn run_registered(&mut self, view: &View) -> Result<CallbackRun, NoMemory>
-        ensures run { IfOk result (λ run. (job : Job) → IsFlowOf job self.old → run ≡ callback_run (facts_of job) view.now (state_of self.old)) }
-        ensures leaves { OnOk result ((job : Job) → IsFlowOf job self.old → state_of self.new ≡ state_behind_callbacks (facts_of job) view.now (state_of self.old)) }
-        ensures stays { (job : Job) → IsFlowOf job self.old → Ran job self.old self.new }
-    {
-        let mut run = CallbackRun::new(self.alloc);
-        for at in 0..self.cursor.values().callbacks().len() {
-            if let Some(name) = self.cursor.values().callbacks().get(at) {
-                let name = name.copy()?;
-                let prints = self.run_callback(view, name.as_slice())?;
-                run.push(Called { name, prints })?;
-            }
-        }
-        Ok(run)
-    }
-
-    /// Runs the callback of a name, stays where it ends, and gives what it prints.
-    fn run_callback(&mut self, view: &View, name: &[u8]) -> Result<Prints, NoMemory>
-        ensures prints { IfOk result (λ prints. (job : Job) → IsFlowOf job self.old → record { name = name.now; prints = prints } ≡ called_of (facts_of job) view.now (state_of self.old) name.now) }
-        ensures leaves { OnOk result ((job : Job) → IsFlowOf job self.old → state_of self.new ≡ state_behind (facts_of job) view.now (state_of self.old) name.now) }
-        ensures stays { (job : Job) → IsFlowOf job self.old → Ran job self.old self.new }
-    {
-        let mut prints = Prints::new(self.alloc);
-        if let Some(part) = routine_of(self.routines.as_slice(), name) {
-            self.cursor.move_to(part.begin);
-            for _ in 0..part.count {
-                if self.at() != At::Plain {
-                    return Ok(prints);
-                }
-                if let Some(printed) = self.act(view)? {
-                    prints.push(printed)?;
-                }
-            }
-        }
-        Ok(prints)
-    }
-
     /// Takes the action of the next instruction.
     fn act(&mut self, view: &View) -> Result<Option<Printed>, NoMemory>
         requires { next_of self.old ≡ at.Plain }

@@ -63,32 +63,6 @@ fn seen(role: Role) -> View {
     }
 }
 
-#[test]
-fn survivors_run_their_callbacks(rt: HostRuntime) -> Result<(), Fail> {
-    let job = accepted(&rt, rt.alloc(), "register f|register f|let b index")?;
-    let mut flow = Flow::new(rt.alloc(), &job)?;
-    let first = printed(rt.alloc(), &mut flow, &seen(Role::Initial))?;
-    assert_eq!(rt; first.as_str(), "");
-    for (role, count, text) in [
-        (Role::Survivor, 1, "a 1 1 1"),
-        (Role::Survivor, 1, "a 2 2 2"),
-        (Role::Recovered, 0, ""),
-    ] {
-        flow.rewind(role);
-        let run = flow.run_callbacks(&seen(role))?;
-        assert_eq!(rt; run.len(), count);
-        let mut told = String::new(rt.alloc());
-        for called in run.as_slice() {
-            assert_eq!(rt; called.name.as_slice(), b"f".as_slice());
-            for printed in called.prints.as_slice() {
-                add(rt.alloc(), &mut told, printed)?;
-            }
-        }
-        assert_eq!(rt; told.as_str(), text);
-    }
-    Ok(())
-}
-
 // What a flow prints to its end, where each outward statement is passed.
 fn printed(alloc: Global, flow: &mut Flow, view: &View) -> Result<String, Fail> {
     let mut text = String::new(alloc);

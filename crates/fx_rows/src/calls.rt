@@ -13,7 +13,7 @@ struct Row {
     code: u8,
 }
 
-const RUN_ROWS: [Row; 7] = [
+const RUN_ROWS: [Row; 11] = [
     Row {
         shows: "the prints of one rank",
         words: "run",
@@ -61,6 +61,34 @@ const RUN_ROWS: [Row; 7] = [
         words: "run",
         source: "fenix 1|ranks 2|spares 0|separation 1|begin|barrier|end|schedule|stop|",
         written: "fenix: bad job: NotBuilt at 2:1|",
+        code: 3,
+    },
+    Row {
+        shows: "a barrier inside a loop",
+        words: "run",
+        source: "fenix 1|ranks 1|spares 0|separation 1|counter c|begin|for c 0 1|print c|barrier|endfor|end|schedule|stop|",
+        written: "fenix: bad job: NotBuilt at 9:1|",
+        code: 3,
+    },
+    Row {
+        shows: "a barrier behind `else`",
+        words: "run",
+        source: "fenix 1|ranks 1|spares 0|separation 1|counter c|begin|if lt c 1|print c|else|barrier|endif|end|schedule|stop|",
+        written: "fenix: bad job: NotBuilt at 10:1|",
+        code: 3,
+    },
+    Row {
+        shows: "an event",
+        words: "run",
+        source: "fenix 1|ranks 1|spares 0|separation 1|counter c|begin|print c|end|schedule|step 0|stop|",
+        written: "fenix: bad job: NotBuilt at 10:1|",
+        code: 3,
+    },
+    Row {
+        shows: "a spare",
+        words: "run",
+        source: "fenix 1|ranks 1|spares 1|separation 1|begin|barrier|end|schedule|stop|",
+        written: "fenix: bad job: NotBuilt at 3:1|",
         code: 3,
     },
 ];

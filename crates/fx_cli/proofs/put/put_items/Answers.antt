@@ -1,7 +1,7 @@
 use Rattle.std.proofs.Common.{◌+◌, List, ℕ, drop, subst}
 use Rattle.std.proofs.lemmas.Result.{err_from_is_err_and}
 use Rattle.fx_io.proofs.Written.{SoFar, goes_on, is_cut}
-use Rattle.fx_cli.specs.Items.{text_of}
+use Rattle.fx_cli.specs.Journal.{text_of}
 use Rattle.fx_cli.proofs.Texts.{text_from}
 use Rattle.fx_cli.proofs.put.put_items.Goals as goal
 

@@ -1,7 +1,7 @@
 -- The lines so far were written, and the others are left.
 use Rattle.std.proofs.Common.{drop}
 use Rattle.fx_io.proofs.Written.{SoFar}
-use Rattle.fx_cli.specs.Items.{text_of}
+use Rattle.fx_cli.specs.Journal.{text_of}
 use Rattle.fx_cli.proofs.put.put_items.Given as goal
 
 abbrev pub invariant-loop-item : goal.invariant-loop-item
