@@ -7,7 +7,7 @@ use Rattle.fx_script.specs.declared.job.Stmt.{Stmt}
 use Rattle.fx_script.specs.declared.job.Stmt.TheOpen.{Stmt-F}
 use Rattle.fx_script.specs.declared.job.Stmt.TheViews.{roll-Stmt}
 use Rattle.fx_script.specs.declared.job.Stmt.TheFolds.{fold-roll-Stmt, map-Stmt, ind-Stmt}
-use Rattle.fx_script.specs.Names.{is_name}
+use Rattle.fx_text.specs.Names.{is_name}
 use Rattle.fx_script.specs.Spelling.{stmt_fits_level, stmt_fits, stmts_fit, list_fits}
 use Rattle.fx_check.specs.Facts.{Facts}
 use Rattle.fx_walk.specs.declared.action.View.{View}
