@@ -3,8 +3,8 @@ ghost use Rattle.fx_lines.specs.Items.{is_writable};
 
 use super::*;
 use fx_base::{
-    Bytes, CallNo, Elems, Epoch, GroupId, How, Ident, MemberId, Op, Proc, Role, Seats, Sparse, Stamp,
-    Stamps,
+    Bytes, CallNo, Elems, Epoch, GroupId, How, Ident, MemberId, Op, Proc, Role, Seats, Sparse,
+    Stamp, Stamps,
 };
 use fx_link::{Message, Slot};
 use std::alloc::Global;
