@@ -6,6 +6,3 @@ mod schedule;
 
 pub use moment::{Moment, Moments};
 pub use schedule::moments;
-
-#[cfg(test)]
-mod tests;

@@ -1,6 +1,6 @@
-use super::*;
 use fx_base::Proc;
 use fx_check::check_job;
+use fx_sched::{Moment, moments};
 use fx_script::read_job;
 use std::test::Fail;
 
