@@ -8,6 +8,8 @@ mod bodies;
 #[cfg(test)]
 mod calls;
 #[cfg(test)]
+mod schedules;
+#[cfg(test)]
 mod texts;
 #[cfg(test)]
 mod written;
