@@ -1,10 +1,12 @@
 -- What is left to write of a body: the prints of the walk that its flow is still to do.
 use Rattle.std.proofs.Common.{◌≡◌, ℕ, zero, suc, ◌-◌, List, [], ◌∷◌, ◌++◌, Option, Some, None, Result, Ok, Err, refl, sym, ap, subst, ◌∙◌, arith}
+use Rattle.std.proofs.lemmas.List.{append-nil}
 use Rattle.fx_io.specs.States.{SinkState}
+use Rattle.fx_io.specs.Told.{Gains}
 use Rattle.fx_io.specs.Writing.{Puts}
 use Rattle.fx_io.specs.declared.whole.PutEnd.{PutEnd}
 use Rattle.fx_io.specs.declared.whole.PutEnd.TheVariants as put_end
-use Rattle.fx_io.proofs.Written.{SoFar, gains_none, goes_on, is_cut, is_done}
+use Rattle.fx_io.proofs.Written.{SoFar, begins, goes_on, is_cut, is_done}
 use Rattle.fx_flow.specs.Flowing.{Flowing, DoesRest, WentOn}
 use Rattle.fx_walk.specs.declared.action.At.{At}
 use Rattle.fx_walk.specs.declared.action.At.TheVariants as at
@@ -24,6 +26,10 @@ pub record Left (view : View) (flow : Flowing) (n : ℕ) (from now : SinkState) 
   pub within : IsWithin walk n
   pub so_far : SoFar from now whole (text_of (walk_items walk))
 
+gains_none : (a : Option (List ℕ)) → Gains a a []
+gains_none None = tt
+gains_none (Some l) = sym (append-nil l)
+
 -- memory ran out before a piece was written
 pub stopped : {a b : SinkState} {whole rest : List ℕ} → SoFar a b whole rest → Puts a b whole (Err put_end.NoMemory)
 stopped {a} {b} {whole} {rest} so = is_cut {line = []} rest put_end.NoMemory so (record {
@@ -31,6 +37,9 @@ stopped {a} {b} {whole} {rest} so = is_cut {line = []} rest put_end.NoMemory so 
   count_never_falls = omega arith;
   failed_only_if_count_rose = λ e. absurd cc;
 })
+
+pub unwritten : {a : SinkState} {whole : List ℕ} → Puts a a whole (Err put_end.NoMemory)
+unwritten {a = a} {whole = whole} = stopped {rest = whole} (begins refl)
 
 -- a walk that only prints and isn't at a plain action is at its end
 at_its_end : (walk : Walk) → OnlyPrints walk → (at_of walk ≡ at.Plain → ⊥) → text_of (walk_items walk) ≡ []

@@ -1,8 +1,9 @@
 ghost use Rattle.fx_io.specs.Writing.{Puts};
-ghost use Rattle.std.specs.Prelude.{◌≡◌, IfOk, None};
+ghost use Rattle.std.specs.Prelude.{◌≡◌, IfOk, None, true};
+ghost use Rattle.fx_text.specs.Names.{is_name};
 ghost use Rattle.fx_script.specs.Canonical.{HasText};
 ghost use Rattle.fx_cli.specs.Built.{first_unbuilt};
-ghost use Rattle.fx_cli.specs.Journal.{body_walk, closing, journal_of, opening, print_item, text_of, walk_items};
+ghost use Rattle.fx_cli.specs.Journal.{body_walk, closing, ended_line, journal_of, opening, print_item, text_of, walk_items};
 
 use crate::put::{put_item, put_items};
 use fx_base::{Bytes, Epoch, Ident, NoMemory, Proc, Role, Seats};
@@ -51,10 +52,18 @@ fn put_body<K: Sink>(
             break;
         }
         if let Some(printed) = flow.advance(&ALONE)? {
-            put_item(&print_item(printed), line, sink)?;
+            put_printed(printed, line, sink)?;
         }
     }
     Ok(())
+}
+
+fn put_printed<K: Sink>(printed: Printed, line: &mut Bytes, sink: &mut K) -> Result<(), PutEnd>
+    requires { is_name printed.name ≡ true }
+    ensures { Puts (K.state sink.old) (K.state sink.new) (ended_line (print_item printed)) result }
+{
+    let item = print_item(printed);
+    put_item(&item, line, sink)
 }
 
 fn print_item(printed: Printed) -> Item
