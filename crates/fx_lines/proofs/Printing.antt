@@ -10,8 +10,9 @@ use Rattle.fx_link.specs.declared.message.Message.TheVariants as message
 use Rattle.fx_lines.specs.Forms.{tabled, is_some_list}
 use Rattle.fx_lines.specs.Items.{line_of, is_writable}
 use Rattle.fx_lines.specs.Messages.{messages}
-use Rattle.fx_lines.specs.Names.{is_name}
-use Rattle.fx_lines.specs.Printing.{message_has_forms, has_forms, spaced, first_word, other_words}
+use Rattle.fx_text.specs.Names.{is_name}
+use Rattle.fx_text.specs.Written.{spaced}
+use Rattle.fx_lines.specs.Printing.{message_has_forms, has_forms, first_word, other_words}
 use Rattle.fx_lines.specs.Slots.{is_join_kind}
 
 and_true : (b : Bool) → (b && true) ≡ b

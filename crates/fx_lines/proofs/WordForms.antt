@@ -1,14 +1,15 @@
 -- Names, choices, pairs and joined lists are read as they are spelled.
 use Rattle.std.proofs.Common.{◌≡◌, ℕ, ◌<◌, ◌≤◌, Bool, true, not, ◌&&◌, eqb, leb, List, [], ◌∷◌, length, refl, sym, ap, ◌∙◌, arith, inl, inr}
 use Rattle.std.specs.Prelude.{Option, Some, None, map}
-use Rattle.std.specs.List.{list_all, list_any, find, join_with_byte}
+use Rattle.std.specs.List.{list_all, find, join_with_byte}
 use Rattle.std.specs.Option.{option_map}
 use Rattle.std.specs.Str.{bytes_eq}
 use Rattle.std.proofs.lemmas.Bool.{and_parts, and_from, cases_Bool, or_cases, leb-true}
 use Rattle.std.proofs.lemmas.List.Splits.{join_with_byte-slice_split, length-slice_split}
 use Rattle.std.proofs.lemmas.Slice.Eq.{bytes_eq-Decides}
 use Rattle.fx_lines.specs.Forms.{WordForm, both, choice, pair, pair_in, joined, read_each, is_some_list, pieces}
-use Rattle.fx_lines.specs.Names.{is_letter, is_letter_or_digit, begins_with_letter, taken_words, is_name, name}
+use Rattle.fx_text.specs.Names.{is_letter, is_letter_or_digit, begins_with_letter, is_reserved, is_name}
+use Rattle.fx_lines.specs.Names.{name}
 use Rattle.fx_lines.proofs.Separated.{no_space, no_comma, no_equals, comma_no_space, equals_no_comma, all_weaker, pieces_again, joined_all}
 use Rattle.fx_lines.proofs.Sound.{IsSoundWord}
 use Rattle.fx_lines.proofs.NumberForms.{free_of}
@@ -47,7 +48,7 @@ begun_free (b ∷ bs) h =
 
 name_free : (word : List ℕ) → is_name word ≡ true → list_all no_equals word ≡ true
 name_free word h =
-    let p = and_parts (begins_with_letter word && leb (length word) 16) (not (list_any (bytes_eq word) taken_words)) h in
+    let p = and_parts (begins_with_letter word && leb (length word) 16) (not (is_reserved word)) h in
     begun_free word (and_parts (begins_with_letter word) (leb (length word) 16) p.0).0
 
 name_back : (word bytes : List ℕ) → name.read word ≡ Some bytes → (bytes ≡ word) × (is_name bytes ≡ true)

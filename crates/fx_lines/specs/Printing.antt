@@ -1,12 +1,12 @@
 -- Which items can be printed, told kind by kind, and a line as its words.
-use Rattle.std.specs.Prelude.{ℕ, Bool, true, List, [], ◌∷◌, ◌++◌, Some}
+use Rattle.std.specs.Prelude.{ℕ, Bool, true, List, Some}
 use Rattle.fx_item.specs.declared.item.Item.{Item}
 use Rattle.fx_item.specs.declared.item.Item.TheVariants as item
 use Rattle.fx_link.specs.declared.message.Message.{Message}
 use Rattle.fx_link.specs.declared.message.Message.TheVariants as message
 use Rattle.fx_lines.specs.Forms.{is_some_list}
 use Rattle.fx_lines.specs.Items.{item_row, item_kind, item_apart, items}
-use Rattle.fx_lines.specs.Names.{is_name}
+use Rattle.fx_text.specs.Names.{is_name}
 use Rattle.fx_lines.specs.Slots.{is_join_kind}
 
 -- a message joins with one of four slots, and has a slot, or a seat, where such a list is joined by commas
@@ -25,11 +25,6 @@ has_forms (item.Print p e name list) = is_name name
 has_forms (item.Send p q m) = message_has_forms m
 has_forms (item.Deliver p q m) = message_has_forms m
 has_forms i = true
-
--- words, each behind a space
-abbrev pub spaced : List (List ℕ) → List ℕ
-spaced [] = []
-spaced (word ∷ words) = (32 ∷ word) ++ spaced words
 
 -- the first word of an item's line, and the words behind it
 abbrev pub first_word : Item → List ℕ

@@ -1,10 +1,11 @@
 //! What follows from the table of lines. The functions do nothing: their contracts are theorems.
 ghost use Rattle.std.specs.Prelude.{◌≡◌, ◌≤◌, ◌↔◌, ◌++◌, ℕ, List, Ok, Err, true};
 ghost use Rattle.fx_item.specs.declared.item.Item.{Item};
+ghost use Rattle.fx_text.specs.Written.{spaced};
 ghost use Rattle.fx_lines.specs.declared.fault.ItemFault.{ItemFault};
 ghost use Rattle.fx_lines.specs.declared.fault.ItemFault.TheVariants.{BadField};
 ghost use Rattle.fx_lines.specs.Items.{line_of, item_in, is_writable, is_in_type};
-ghost use Rattle.fx_lines.specs.Printing.{has_forms, spaced, first_word, other_words};
+ghost use Rattle.fx_lines.specs.Printing.{has_forms, first_word, other_words};
 ghost use Rattle.fx_lines.specs.Refusals.{IsRefused};
 
 /// An item whose fields have their forms is read back from its line.

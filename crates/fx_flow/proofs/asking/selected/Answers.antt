@@ -17,13 +17,13 @@ loop-index-preserved c =
     let at = c.in-Ok.ensures.1 in
     elim c.if-is_selected.branch [
       | then-is_selected+in_ok-put w ↦
-        let chosen = subst (λ (n : ℕ). is_selected c.args.selection.now n ≡ true) at (sym w.if-is_selected.ensures) in
-        let element = get_or c.args.elements.now c.loop-index.index (pos 0) in
-        let fits : SFits w64 element = search rules in
-        let put = rw at at w.in_ok-put.ensures.ok in
-        w.made-is ∙ put ∙ ap (insert c.loop-index.made c.loop-index.index) (to_z-of_z w64 element fits)
-        ∙ puts_next c.args.selection.now c.args.elements.now c.loop-index.index below c.loop-index.made c.loop-index.invariant chosen
+          let chosen = subst (λ (n : ℕ). is_selected c.args.selection.now n ≡ true) at (sym w.if-is_selected.ensures) in
+          let element = get_or c.args.elements.now c.loop-index.index (pos 0) in
+          let fits : SFits w64 element = search rules in
+          let put = rw at at w.in_ok-put.ensures.ok in
+          w.made-is ∙ put ∙ ap (insert c.loop-index.made c.loop-index.index) (to_z-of_z w64 element fits)
+          ∙ puts_next c.args.selection.now c.args.elements.now c.loop-index.index below c.loop-index.made c.loop-index.invariant chosen
       | else-is_selected w ↦
-        let chosen = subst (λ (n : ℕ). is_selected c.args.selection.now n ≡ false) at (sym w.if-is_selected.ensures) in
-        w.made-is ∙ skips_next c.args.selection.now c.args.elements.now c.loop-index.index below c.loop-index.made c.loop-index.invariant chosen
+          let chosen = subst (λ (n : ℕ). is_selected c.args.selection.now n ≡ false) at (sym w.if-is_selected.ensures) in
+          w.made-is ∙ skips_next c.args.selection.now c.args.elements.now c.loop-index.index below c.loop-index.made c.loop-index.invariant chosen
     ]
