@@ -59,13 +59,14 @@ none_left (Passes rest) only within = absurd within
 none_left (Prints printed rest) only within = absurd within
 none_left (Asks place wanted state rest) only within = absurd only
 
-pub all_done : {view : View} {flow : Flowing} {from now : SinkState} {whole : List ℕ} → Left view flow 0 from now whole → Puts from now whole (Ok tt)
-all_done {view} {flow} {from} {now} {whole} left = is_done (subst (λ (rest : List ℕ). SoFar from now whole rest) (none_left left.walk left.only left.within) left.so_far)
+pub all_done : {view : View} {flow : Flowing} {n : ℕ} {from now : SinkState} {whole : List ℕ} → Left view flow n from now whole → n ≡ 0 → Puts from now whole (Ok tt)
+all_done {view} {flow} {n} {from} {now} {whole} left none =
+    is_done (subst (λ (rest : List ℕ). SoFar from now whole rest) (none_left left.walk left.only (subst (λ (k : ℕ). IsWithin left.walk k) none left.within)) left.so_far)
 
 -- an action that printed nothing
-pub passed : {view : View} {flow : Flowing} {n : ℕ} {from now : SinkState} {whole : List ℕ} (later : Flowing) (left : Left view flow (suc n) from now whole)
+pub passed : {view : View} {flow : Flowing} {m n : ℕ} {from now : SinkState} {whole : List ℕ} (later : Flowing) (left : Left view flow m from now whole) → m ≡ suc n
     → WentOn view left.walk None later → Left view later n from now whole
-passed {view} {flow} {n} {from} {now} {whole} later left went = went_on left.walk left.only left.within left.so_far went
+passed {view} {flow} {m} {n} {from} {now} {whole} later left one went = went_on left.walk left.only (subst (λ (k : ℕ). IsWithin left.walk k) one left.within) left.so_far went
   where
     went_on : (walk : Walk) → OnlyPrints walk → IsWithin walk (suc n) → SoFar from now whole (text_of (walk_items walk)) → WentOn view walk None later → Left view later n from now whole
     went_on (Ends state) only within so went = absurd went
@@ -82,9 +83,9 @@ pub record Printing (view : View) (later : Flowing) (n : ℕ) (from now : SinkSt
   pub within : IsWithin rest n
   pub so_far : SoFar from now whole (ended_line (print_item printed) ++ text_of (walk_items rest))
 
-pub prints : {view : View} {flow : Flowing} {n : ℕ} {from now : SinkState} {whole : List ℕ} (later : Flowing) (printed : Printed) (left : Left view flow (suc n) from now whole)
+pub prints : {view : View} {flow : Flowing} {m n : ℕ} {from now : SinkState} {whole : List ℕ} (later : Flowing) (printed : Printed) (left : Left view flow m from now whole) → m ≡ suc n
     → WentOn view left.walk (Some printed) later → Printing view later n from now whole printed
-prints {view} {flow} {n} {from} {now} {whole} later told left went = went_on left.walk left.only left.within left.so_far went
+prints {view} {flow} {m} {n} {from} {now} {whole} later told left one went = went_on left.walk left.only (subst (λ (k : ℕ). IsWithin left.walk k) one left.within) left.so_far went
   where
     went_on : (walk : Walk) → OnlyPrints walk → IsWithin walk (suc n) → SoFar from now whole (text_of (walk_items walk)) → WentOn view walk (Some told) later → Printing view later n from now whole told
     went_on (Ends state) only within so went = absurd went

@@ -30,9 +30,23 @@ pub fn write_journal<K: Sink>(alloc: Global, job: &Accepted, sink: &mut K) -> Re
     ensures { Puts (K.state sink.old) (K.state sink.new) (text_of (journal_of job.now)) result }
 {
     let mut line = Bytes::new(alloc);
-    put_items(opening(alloc)?.as_slice(), &mut line, sink)?;
+    put_opening(alloc, &mut line, sink)?;
     put_body(alloc, job, &mut line, sink)?;
-    put_items(closing(alloc)?.as_slice(), &mut line, sink)
+    put_closing(alloc, &mut line, sink)
+}
+
+fn put_opening<K: Sink>(alloc: Global, line: &mut Bytes, sink: &mut K) -> Result<(), PutEnd>
+    ensures { Puts (K.state sink.old) (K.state sink.new) (text_of opening) result }
+{
+    let first = opening(alloc)?;
+    put_items(first.as_slice(), line, sink)
+}
+
+fn put_closing<K: Sink>(alloc: Global, line: &mut Bytes, sink: &mut K) -> Result<(), PutEnd>
+    ensures { Puts (K.state sink.old) (K.state sink.new) (text_of closing) result }
+{
+    let last = closing(alloc)?;
+    put_items(last.as_slice(), line, sink)
 }
 
 // Writes what the body prints.
