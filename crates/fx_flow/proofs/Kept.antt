@@ -67,7 +67,7 @@ at_stand job old new same keeps is =
     let there : IsFlowOf job (record old { stand = new.stand }) = record { accepted = is.accepted; is_code = is.is_code; are_routines = is.are_routines; shaped = keeps is.shaped } in
     subst (λ (flow : Flowing). IsFlowOf job flow) (sym same) there
 
-acted : (view : View) (old new : Flowing) (printed : Option Printed) → new ≡ record old { stand = new.stand } → acts old.code view old.stand ≡ Moves printed new.stand
+pub acted : (view : View) (old new : Flowing) (printed : Option Printed) → new ≡ record old { stand = new.stand } → acts old.code view old.stand ≡ Moves printed new.stand
     → (job : Job) → IsFlowOf job old → IsFlowOf job new
 acted view old new printed same is job of = at_stand job old new same
     (λ shaped. subst (λ (act : Act). IsShaped job.names (state_after old.stand.state act)) is (acts_keep job.names view old.stand (slice_get old.code old.stand.place) shaped)) of

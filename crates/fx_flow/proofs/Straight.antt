@@ -33,6 +33,7 @@ pub record Takes (f : Facts) (code : List Instr) (view : View) (s : Stmt) (p m :
   pub printed : Option Printed
   pub now : State
   pub is : acts code view (stand p opened state) ≡ Moves printed (stand m opened now)
+  pub kept : now.callbacks ≡ state.callbacks
   pub walks : (k : Onward) → walk f s false k view state ≡ before printed (k view now)
 
 -- the code takes one statement after another
@@ -70,6 +71,7 @@ straight f code declares (DoesLet {p} {m} {q} {ss} spot array value is next) n k
     printed = None;
     now = with_elements f state array (values_from f value (sight view state) 0 (elements_of f state array));
     is = does code view (stand p opened state) _ is ∙ ap (λ (elements : List ℤ). goes m opened (with_elements f state array elements)) (term_values-term_of f value (sight view state) 0 (elements_of f state array));
+    kept = refl;
     walks = λ k. opened_walk f (Stmt-F.Let spot array value) _ (stmt.rolls-Let spot array value) k view state;
   },
 )
@@ -80,6 +82,7 @@ straight f code declares (DoesPrint {p} {m} {q} {ss} spot name is next) n keep =
     printed = Some (printed_of f state name);
     now = state;
     is = does code view (stand p opened state) _ is ∙ ap (λ (values : List ℤ). Moves (Some (record { name = name; values = values })) (stand m opened state)) (printed_same f state name);
+    kept = refl;
     walks = λ k. opened_walk f (Stmt-F.Print spot name) _ (stmt.rolls-Print spot name) k view state;
   },
 )

@@ -39,6 +39,10 @@ kinds view c (Some instr.End) = ends_kind c.opened c.state
 kinds view c (Some (instr.For counter first last inside next)) = tests_plain counter last inside next _ c.opened c.state
 kinds view c (Some other) = refl
 
+-- what moves on is a plain action
+pub moves_plainly : (view : View) (flow : Flowing) (printed : Option Printed) (next : Stand) → acts flow.code view flow.stand ≡ Moves printed next → next_of flow ≡ at.Plain
+moves_plainly view flow printed next is = kinds view flow.stand (slice_get flow.code flow.stand.place) ∙ ap kind is
+
 -- what comes next is told by the walk
 pub told : (view : View) (flow : Flowing) (walk : Walk) → DoesRest view walk flow → next_of flow ≡ at_of walk
 told view flow (Ends state) does = kinds view flow.stand (slice_get flow.code flow.stand.place) ∙ ap kind does.0

@@ -4,8 +4,10 @@ use Rattle.std.specs.Str.{bytes_eq}
 use Rattle.fx_base.specs.declared.names.MemberId.{MemberId}
 use Rattle.fx_script.specs.declared.job.Callback.{Callback}
 use Rattle.fx_script.specs.declared.job.Job.{Job}
+use Rattle.fx_script.specs.declared.job.Stmt.{Stmt}
+use Rattle.fx_check.specs.Acceptance.{callback_body_lines}
 use Rattle.fx_check.specs.Facts.{Facts, facts_of}
-use Rattle.fx_check.specs.Parts.{KeepsByParts}
+use Rattle.fx_check.specs.Parts.{KeepRules, KeepsByParts}
 use Rattle.fx_walk.specs.declared.action.At.{At}
 use Rattle.fx_walk.specs.declared.action.At.TheVariants as at
 use Rattle.fx_walk.specs.declared.action.View.{View}
@@ -21,7 +23,7 @@ use Rattle.fx_flow.specs.declared.instr.Loop.{Loop}
 use Rattle.fx_flow.specs.declared.instr.Outward.{Outward}
 use Rattle.fx_flow.specs.declared.instr.Outward.TheVariants as outward
 use Rattle.fx_flow.specs.declared.instr.Routine.{Routine}
-use Rattle.fx_flow.specs.Code.{Stand, Follows, IsCode, start}
+use Rattle.fx_flow.specs.Code.{Stand, Follows, IsCode, Leads, start}
 use Rattle.fx_flow.specs.Outward.{array_at}
 
 -- the code of a job's body and of its callbacks, where the body begins, and where a rank stands
@@ -171,7 +173,16 @@ abbrev pub part_of : Option Routine → Option (ℕ × ℕ)
 part_of None = None
 part_of (Some routine) = Some (routine.begin, routine.count)
 
--- callbacks ran: the flow has another place and another state of the same shape, and nothing else changed
+-- this body of a callback, of so many statements, comes next
+pub record IsDue (job : Job) (body : List Stmt) (count : ℕ) (flow : Flowing) : Type 0 where
+  pub of_job : IsFlowOf job flow
+  pub leads : Leads (facts_of job) flow.code flow.stand.place body 0
+  pub keeps : KeepRules (callback_body_lines (facts_of job) 0 body)
+  pub counted : count ≡ length body
+
+-- callbacks ran: the flow has another place and another state of the same shape, with the same callbacks, and nothing
+-- else changed
 pub record Ran (job : Job) (old new : Flowing) : Type 0 where
   pub same : new ≡ record old { stand = record old.stand { place = new.stand.place; state = state_of new } }
   pub shaped : IsShaped job.names (state_of new)
+  pub registered : (state_of new).callbacks ≡ (state_of old).callbacks

@@ -1,19 +1,20 @@
-ghost use Rattle.std.specs.Prelude.{◌≡◌, ℤ, List, Some, None, IfOk, OnOk, OnErr, length, slice_get};
+ghost use Rattle.std.specs.Prelude.{◌≡◌, ℤ, List, [], Some, None, IfOk, OnOk, OnErr, length, slice_get};
 ghost use Rattle.std.specs.List.{find};
 ghost use Rattle.std.specs.Option.{option_map};
 ghost use Rattle.fx_script.specs.declared.job.Job.{Job};
+ghost use Rattle.fx_script.specs.declared.job.Stmt.{Stmt};
 ghost use Rattle.fx_check.specs.Facts.{facts_of};
 ghost use Rattle.fx_walk.specs.declared.action.At.TheVariants as at;
 ghost use Rattle.fx_walk.specs.declared.action.View.{View};
-ghost use Rattle.fx_walk.specs.Along.{at_of};
-ghost use Rattle.fx_walk.specs.Callbacks.{callback_run, called_of, state_behind, state_behind_callbacks};
+ghost use Rattle.fx_walk.specs.Along.{at_of, outputs, stop_of};
+ghost use Rattle.fx_walk.specs.Callbacks.{callback_run, called_of, prints_of, state_at, state_behind, state_behind_callbacks};
 ghost use Rattle.fx_walk.specs.InStep.{job_walk};
 ghost use Rattle.fx_walk.specs.State.{at_init, blank};
-ghost use Rattle.fx_walk.specs.Walk.{Elements, Entries, Nothing, Number, Walk};
+ghost use Rattle.fx_walk.specs.Walk.{Elements, Entries, Nothing, Number, Walk, walk_of};
 ghost use Rattle.fx_flow.specs.declared.instr.Instr.TheVariants as instr;
 ghost use Rattle.fx_flow.specs.Code.{Moves, acts};
 ghost use Rattle.fx_flow.specs.Emits.{Grows};
-ghost use Rattle.fx_flow.specs.Flowing.{AreRoutines, AsksFor, DoesRest, IsAtBegin, IsFlowOf, Ran, TellsNeed, WantsElements, WantsEntries, WantsNumber, WasAnswered, WentOn, before, counter_of, is_routine_of, next_of, outward_in, part_of, restored_of, state_of, target_of};
+ghost use Rattle.fx_flow.specs.Flowing.{AreRoutines, AsksFor, DoesRest, IsAtBegin, IsDue, IsFlowOf, Ran, TellsNeed, WantsElements, WantsEntries, WantsNumber, WasAnswered, WentOn, before, counter_of, is_routine_of, next_of, outward_in, part_of, restored_of, state_of, target_of};
 
 use crate::asking::wanted_by;
 use crate::cursor::Cursor;
@@ -175,6 +176,71 @@ impl Flow {
         ensures same_job { (job : Job) → IsFlowOf job self.old → IsFlowOf job self.new }
     {
         self.cursor.rewind(self.begin, role);
+    }
+
+    /// Runs the registered callbacks, in the order of registration, each from the state that the one
+    /// before left, and gives what each printed. The place stays. Without memory some of them may
+    /// have run.
+    pub fn run_callbacks(&mut self, view: &View) -> Result<CallbackRun, NoMemory>
+        ensures run { IfOk result (λ run. (job : Job) → IsFlowOf job self.old → run ≡ callback_run (facts_of job) view.now (state_of self.old)) }
+        ensures leaves { OnOk result ((job : Job) → IsFlowOf job self.old → state_of self.new ≡ state_behind_callbacks (facts_of job) view.now (state_of self.old)) }
+        ensures begins { (job : Job) → IsFlowOf job self.old → IsAtBegin self.old → (view : View) → DoesRest view (job_walk job view (state_of self.new)) self.new }
+        ensures same_job { (job : Job) → IsFlowOf job self.old → IsFlowOf job self.new }
+    {
+        let place = self.cursor.place();
+        let run = self.run_registered(view);
+        self.cursor.move_to(place);
+        run
+    }
+
+    /// Runs the registered callbacks, and stays where the last one ends.
+    fn run_registered(&mut self, view: &View) -> Result<CallbackRun, NoMemory>
+        ensures run { IfOk result (λ run. (job : Job) → IsFlowOf job self.old → run ≡ callback_run (facts_of job) view.now (state_of self.old)) }
+        ensures leaves { OnOk result ((job : Job) → IsFlowOf job self.old → state_of self.new ≡ state_behind_callbacks (facts_of job) view.now (state_of self.old)) }
+        ensures stays { (job : Job) → IsFlowOf job self.old → Ran job self.old self.new }
+    {
+        let mut run = CallbackRun::new(self.alloc);
+        for at in 0..self.cursor.values().callbacks().len() {
+            if let Some(name) = self.cursor.values().callbacks().get(at) {
+                let name = name.copy()?;
+                let prints = self.run_callback(view, name.as_slice())?;
+                run.push(Called { name, prints })?;
+            }
+        }
+        Ok(run)
+    }
+
+    /// Runs the callback of a name, stays where it ends, and gives what it prints.
+    fn run_callback(&mut self, view: &View, name: &[u8]) -> Result<Prints, NoMemory>
+        ensures prints { IfOk result (λ prints. (job : Job) → IsFlowOf job self.old → record { name = name.now; prints = prints } ≡ called_of (facts_of job) view.now (state_of self.old) name.now) }
+        ensures leaves { OnOk result ((job : Job) → IsFlowOf job self.old → state_of self.new ≡ state_behind (facts_of job) view.now (state_of self.old) name.now) }
+        ensures stays { (job : Job) → IsFlowOf job self.old → Ran job self.old self.new }
+    {
+        match routine_of(self.routines.as_slice(), name) {
+            Some(part) => {
+                self.cursor.move_to(part.begin);
+                self.run_statements(view, part.count)
+            }
+            None => Ok(Prints::new(self.alloc)),
+        }
+    }
+
+    /// Runs so many statements, which must be those of a callback, from where it stands, and gives
+    /// what they print.
+    fn run_statements(&mut self, view: &View, count: usize) -> Result<Prints, NoMemory>
+        ensures prints { IfOk result (λ prints. (job : Job) (body : List Stmt) → IsDue job body count self.old → prints ≡ prints_of (outputs (walk_of (facts_of job) body view.now (state_of self.old)) [])) }
+        ensures leaves { OnOk result ((job : Job) (body : List Stmt) → IsDue job body count self.old → state_of self.new ≡ state_at (stop_of (walk_of (facts_of job) body view.now (state_of self.old)) [])) }
+        ensures stays { (job : Job) (body : List Stmt) → IsDue job body count self.old → Ran job self.old self.new }
+    {
+        let mut prints = Prints::new(self.alloc);
+        let mut left = count;
+        while left > 0 && self.at() == At::Plain {
+            if let Some(printed) = self.act(view)? {
+                prints.push(printed)?;
+            }
+            left -= 1;
+        }
+        Ok(prints)
     }
 
     /// Takes the action of the next instruction.

@@ -1,7 +1,7 @@
 ghost use Rattle.std.specs.Prelude.{◌<◌, length, IfOk};
 
 use super::*;
-use fx_base::{Bytes, Elems, GroupId, MemberId, Op, Role, Sparse, Stamp};
+use fx_base::{Bytes, Role};
 use fx_check::{Accepted, check_job};
 use fx_script::read_job;
 use std::alloc::Global;
@@ -17,43 +17,6 @@ callback f|let a + a 1|print a|endcallback|begin|";
 
 const TAIL: &str = "|end|schedule|stop|";
 
-const BODIES: &str = "
-for c 0 1|let a + a c|print a|endfor|when survivor|print a|endwhen|print c = a 0 0 0, a 1 1 1, c 1;
-set c 5|for c 3 2|print c|endfor|print c = c 5;
-for c 2 2|print c|endfor|print c = c 2, c 2;
-for c -7 1|print c|set c 9|endfor|print c = c 0, c 1, c 9;
-for c 0 3|set c * c 10|print c|endfor|print c = c 0, c 10, c 20, c 30, c 30;
-if lt c 0|print c|else|set c 4|print c|endif|if le c 4|print a|endif|
-if eq c 4|set c 0|endif|print c = c 4, a 0 0 0, c 0;
-if lt 3 3|print a|else|print b|endif = b 0 0 0;
-let a index|let b + * a a index|print b|let a - b a|print a|
-let a * a a|print a = b 0 2 6, a 0 1 4, a 0 1 16;
-let a - index 1|let a * a 9223372036854775807|let a + a a|print a = a 2 0 -2;
-set c 9223372036854775807|set c + c 1|print c|set c * c c|print c|
-set c - c 1|print c = c -9223372036854775808, c 0, c -1;
-let a + rank * size 10|print a|let b latest 0|group 0 0 0|print b = a 10 10 10, b -1 -1 -1;
-when initial|when survivor|print a|endwhen|when initial|print b|endwhen|endwhen|
-when recovered|print c|endwhen = b 0 0 0;
-register f|register f|print a = a 0 0 0";
-
-#[test]
-fn bodies_print_as_in_the_table(rt: HostRuntime) -> Result<(), Fail> {
-    for row in BODIES.split(';') {
-        let Some((body, expected)) = row.split_once(" = ") else {
-            return Err(Fail::from("a row has prints"));
-        };
-        let job = accepted(&rt, rt.alloc(), body)?;
-        let mut flow = Flow::new(rt.alloc(), &job)?;
-        let printed = printed(rt.alloc(), &mut flow, &seen(Role::Initial))?;
-        assert_eq!(rt; printed.as_str(), expected, "at {body}");
-        // again from the beginning
-        flow.rewind(Role::Recovered);
-        let again = self::printed(rt.alloc(), &mut flow, &seen(Role::Initial))?;
-        assert_eq!(rt; again.as_str(), expected, "again at {body}");
-    }
-    Ok(())
-}
-
 fn seen(role: Role) -> View {
     View {
         role,
@@ -61,6 +24,32 @@ fn seen(role: Role) -> View {
         size: 1,
         latest: [-1; 8],
     }
+}
+
+#[test]
+fn survivors_run_their_callbacks(rt: HostRuntime) -> Result<(), Fail> {
+    let job = accepted(&rt, rt.alloc(), "register f|register f|let b index")?;
+    let mut flow = Flow::new(rt.alloc(), &job)?;
+    let first = printed(rt.alloc(), &mut flow, &seen(Role::Initial))?;
+    assert_eq!(rt; first.as_str(), "");
+    for (role, count, text) in [
+        (Role::Survivor, 1, "a 1 1 1"),
+        (Role::Survivor, 1, "a 2 2 2"),
+        (Role::Recovered, 0, ""),
+    ] {
+        flow.rewind(role);
+        let run = flow.run_callbacks(&seen(role))?;
+        assert_eq!(rt; run.len(), count);
+        let mut told = String::new(rt.alloc());
+        for called in run.as_slice() {
+            assert_eq!(rt; called.name.as_slice(), b"f".as_slice());
+            for printed in called.prints.as_slice() {
+                add(rt.alloc(), &mut told, printed)?;
+            }
+        }
+        assert_eq!(rt; told.as_str(), text);
+    }
+    Ok(())
 }
 
 // What a flow prints to its end, where each outward statement is passed.

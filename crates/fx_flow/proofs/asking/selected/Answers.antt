@@ -1,9 +1,11 @@
-use Rattle.std.proofs.Common.{◌≡◌, ℕ, ◌<◌, true, false, length, get_or, rules, arith, ap, sym, subst, ◌∙◌, pos, w64, SFits}
+use Rattle.std.proofs.Common.{rules, ℕ, w64, ◌≡◌, ◌<◌, ◌+◌, ◌++◌, ◌∷◌, [], List, true, false, length, take, get_or, arith, sym, ap, ◌∙◌, refl}
+use Rattle.std.specs.Prelude.{pos}
 use Rattle.std.specs.FinMap.{insert}
 use Rattle.std.specs.Ordering.{nat_cmp}
-use Rattle.std.proofs.lemmas.Int.{to_z-of_z}
-use Rattle.fx_base.proofs.Maps.{none_is_empty}
+use Rattle.std.proofs.Math.Facts.{to_z-of_z}
+use mir.Val.{to_z, of_z, SFits}
 use Rattle.fx_flow.specs.Outward.{is_selected}
+use Rattle.fx_base.proofs.Maps.{none_is_empty}
 use Rattle.fx_flow.proofs.Selected.{puts_next, skips_next}
 use Rattle.fx_flow.proofs.asking.selected.Goals as goal
 use Rattle.fx_flow.proofs.asking.selected.Goals.{then-is_selected+in_ok-put, else-is_selected}
@@ -13,17 +15,17 @@ loop-index-init c = c.new-made.ensures ∙ sym (none_is_empty nat_cmp)
 
 pub loop-index-preserved : goal.loop-index-preserved
 loop-index-preserved c =
-    let below : c.loop-index.index < length c.args.elements.now = omega arith in
-    let at = c.in-Ok.ensures.1 in
+    let at = c.loop-index.index in
+    let elements = c.args.elements.now in
+    let below : at < length elements = omega arith in
+    let made = c.loop-index.made in
+    let which = c.args.selection.now in
+    let test : c.is_selected.result ≡ is_selected which at = c.is_selected.ensures ∙ ap (is_selected which) c.in-Ok.ensures.1 in
     elim c.if-is_selected.branch [
       | then-is_selected+in_ok-put w ↦
-          let chosen = subst (λ (n : ℕ). is_selected c.args.selection.now n ≡ true) at (sym w.if-is_selected.ensures) in
-          let element = get_or c.args.elements.now c.loop-index.index (pos 0) in
-          let fits : SFits w64 element = search rules in
-          let put = rw at at w.in_ok-put.ensures.ok in
-          w.made-is ∙ put ∙ ap (insert c.loop-index.made c.loop-index.index) (to_z-of_z w64 element fits)
-          ∙ puts_next c.args.selection.now c.args.elements.now c.loop-index.index below c.loop-index.made c.loop-index.invariant chosen
-      | else-is_selected w ↦
-          let chosen = subst (λ (n : ℕ). is_selected c.args.selection.now n ≡ false) at (sym w.if-is_selected.ensures) in
-          w.made-is ∙ skips_next c.args.selection.now c.args.elements.now c.loop-index.index below c.loop-index.made c.loop-index.invariant chosen
+          let fits : SFits w64 (get_or elements at (pos 0)) = search rules in
+          let put : w.put.new.self ≡ insert made at (get_or elements at (pos 0)) =
+          w.in_ok-put.ensures.ok ∙ ap (λ (k : ℕ). insert made k (to_z w64 (of_z w64 (get_or elements at (pos 0))))) c.in-Ok.ensures.1 ∙ ap (insert made at) (to_z-of_z fits) in
+          w.made-is ∙ put ∙ puts_next which elements at below made c.loop-index.invariant (sym test ∙ w.if-is_selected.true)
+      | else-is_selected w ↦ w.made-is ∙ skips_next which elements at below made c.loop-index.invariant (sym test ∙ w.if-is_selected.false)
     ]
