@@ -14,6 +14,12 @@ def job(ranks, length, body):
     return HEAD.format(ranks, length) + body + TAIL
 
 
+def looped(turns, declared, body, behind):
+    """A job of one rank with a loop of so many turns, whose counter is c."""
+    head = "fenix 1\nranks 1\nspares 0\nseparation 1\n" + declared + "begin\n"
+    return head + f"for c 0 {turns - 1}\n" + body + "endfor\n" + behind + TAIL
+
+
 def filled(size, start, piece, behind):
     """A job of at most `size` bytes with `piece` again and again between a start and what is behind."""
     room = size - len(start) - len(behind)
@@ -37,6 +43,18 @@ def jobs():
     yield "prints_2000", job(1, 256, "print a\n" * 2_000), DONE
     yield "prints_20000", job(1, 256, "print a\n" * 20_000), DONE
     yield "source_1mb", job(1, 1, ("print" + " " * 45 + "a\n") * 20_000), DONE
+
+    # What is computed: loops that write little.
+    arrays = "array a 256\narray b 256\ncounter c\n"
+    for turns in (1_000, 9_999):
+        yield f"lets_{turns}", looped(turns, arrays, "let a + b * a index\n", "print a\n"), DONE
+    longest = "let a" + " +" * 60 + " a index rank size c 3" * 10 + " a\n"
+    for turns in (500, 5_000):
+        yield f"expressions_{turns}", looped(turns, "array a 64\ncounter c\n", longest, "print a\n"), DONE
+    branch = "if lt c 150\nset d + d 1\nelse\nset d + d c\nendif\nwhen initial\nlet a + a d\nendwhen\n"
+    for turns in (300, 3_000):
+        counted = looped(turns, "array a 1\ncounter c\ncounter d\n", branch, "print d\nprint a\n")
+        yield f"branches_{turns}", counted, DONE
 
     # What is read alone: 17 ranks are refused at the second line.
     opened, closed = "when initial\n" * 64, "endwhen\n" * 64
