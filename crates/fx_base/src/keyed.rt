@@ -71,7 +71,12 @@ fn place_of<K: Key, V>(entries: &[(K, V)], key: K) -> Result<usize, usize>
     let mut low = 0;
     let mut high = entries.len();
     while low < high {
-        let middle = low + (high - low) / 2;
+        // Entries mostly come in rising key, so the last one is looked at first.
+        let middle = if high == entries.len() {
+            high - 1
+        } else {
+            low + (high - low) / 2
+        };
         match key.compare(entries[middle].0) {
             Ordering::Less => high = middle,
             Ordering::Equal => return Ok(middle),

@@ -1,4 +1,4 @@
-use Rattle.std.proofs.Common.{◌≡◌, ◌<◌, ◌+◌, ◌-◌, ◌/◌, length, refl, arith}
+use Rattle.std.proofs.Common.{◌≡◌, ◌<◌, ◌+◌, length, refl, arith}
 use Rattle.std.proofs.lemmas.Option.{slice_get_read}
 use Rattle.fx_base.proofs.Entries.{holds, place_at, above_read, gap_between}
 use Rattle.fx_base.proofs.keyed.place_of.Goals as goal
@@ -6,7 +6,7 @@ use Rattle.fx_base.proofs.keyed.place_of.Goals as goal
 -- the entry in the middle ties
 pub returns-in-Equal-clause-found : goal.returns-in-Equal-clause-found
 returns-in-Equal-clause-found g c =
-    let middle = c.loop-low.low + (c.loop-low.high - c.loop-low.low) / 2 in
+    let middle = c.if-high-entries.middle in
     let within : middle < length c.args.entries.now = omega arith in
     let read = slice_get_read c.args.entries.now (length c.args.entries.now) middle c.index-entries-middle.result refl within c.index-entries-middle.is in
     place_at g.K.Key.order g.met.K.Key.total c.args.key c.args.entries.now middle c.index-entries-middle.result (holds _ c.requires) read (cc)
@@ -14,7 +14,7 @@ returns-in-Equal-clause-found g c =
 -- it is below the key
 pub loop-low-preserved : goal.loop-low-preserved
 loop-low-preserved g c =
-    let middle = c.loop-low.low + (c.loop-low.high - c.loop-low.low) / 2 in
+    let middle = c.if-high-entries.middle in
     let within : middle < length c.args.entries.now = omega arith in
     let read = slice_get_read c.args.entries.now (length c.args.entries.now) middle c.index-entries-middle.result refl within c.index-entries-middle.is in
     record {
