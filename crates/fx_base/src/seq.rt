@@ -153,4 +153,12 @@ impl Seq<i64> {
     {
         self.items[k] = value;
     }
+
+    /// Writes the items in the place of those that the list has, as many. It takes no memory.
+    pub fn write(&mut self, items: &[i64])
+        requires { length items.now ≡ length self.old }
+        ensures { self.new ≡ items.now }
+    {
+        self.items.copy_from_slice(items);
+    }
 }

@@ -251,7 +251,7 @@ fn put_elements(arrays: &mut Vec<Elems>, slot: usize, elements: &[i64])
     ensures { arrays.new.items ≡ slice_set arrays.old.items slot elements.now }
 {
     if let Some(array) = arrays.get_mut(slot) {
-        write_all(array, elements);
+        array.write(elements);
     }
 }
 
@@ -261,15 +261,6 @@ fn put_entries(arrays: &mut Vec<Elems>, slot: usize, entries: &Sparse)
 {
     if let Some(array) = arrays.get_mut(slot) {
         scatter(entries, array);
-    }
-}
-
-fn write_all(array: &mut Elems, elements: &[i64])
-    requires { length array.old ≡ length elements.now }
-    ensures { array.new ≡ elements.now }
-{
-    for at in 0..elements.len() {
-        array.set(at, elements[at]);
     }
 }
 
