@@ -2,3 +2,4 @@ pub mod Positions
 pub mod LineLemmas
 pub mod WordLemmas
 pub mod NumberLemmas
+pub mod WrittenLemmas

@@ -1,6 +1,6 @@
 -- Digits and the numbers that they spell.
-use Rattle.std.proofs.Common.{◌≡◌, ℕ, zero, suc, ◌+◌, ◌-◌, ◌*◌, ◌^◌, ◌<◌, ◌≤◌, min, true, not, ◌&&◌, ◌||◌, eqb, leb, ltb, List, [], ◌∷◌, length, take, get_or, Result, Ok, Err, refl, sym, ap, subst, ◌∙◌, arith, inl, inr}
-use Rattle.std.specs.Prelude.{ℤ, pos, negsuc, neg_ℤ, IfOk}
+use Rattle.std.proofs.Common.{◌≡◌, ℕ, zero, suc, ◌+◌, ◌-◌, ◌*◌, ◌^◌, ◌<◌, ◌≤◌, min, true, false, not, ◌&&◌, ◌||◌, eqb, leb, ltb, List, [], ◌∷◌, length, take, get_or, Result, Ok, Err, refl, sym, ap, subst, ◌∙◌, arith, inl, inr}
+use Rattle.std.specs.Prelude.{ℤ, pos, negsuc, neg_ℤ, int_lt, IfOk}
 use Rattle.std.specs.Fmt.{decimal, signed_decimal}
 use Rattle.std.specs.Int.{FitsUnsignedBits}
 use lib.IntN.{nat_abs}
@@ -8,7 +8,7 @@ use mir.Syntax.{w64}
 use mir.Val.{to_z, of_z, SFits}
 use Rattle.std.specs.List.{list_all}
 use Rattle.std.specs.Str.Parse.{digits_value}
-use Rattle.std.proofs.lemmas.Bool.{and_parts, and_from, cases_Bool, or_cases, or_right, not_from_false, eqb-true, eq-eqb, ne_eqb, leb-true, le-leb, ltb-true, lt-ltb}
+use Rattle.std.proofs.lemmas.Bool.{and_parts, and_from, cases_Bool, or_cases, or_right, not_from_false, eqb-true, eq-eqb, ne_eqb, leb-true, le-leb, ltb-true, ltb-false, lt-ltb}
 use Rattle.std.proofs.lemmas.Fmt.{decimal-digits_value, digits_decimal, digits_value-decimal, decimal_nonempty, decimal_digit, first_decimal}
 use Rattle.std.proofs.lemmas.Int.{to_z-of_z}
 use Rattle.std.proofs.lemmas.Int.Digits.{digits_value_more}
@@ -178,3 +178,12 @@ digit_of digit (negsuc n) small is = absurd is.0
 pub one_digit : (digit : ℕ) (z : ℤ) → digit < 10 → SFits w64 z → FitsUnsignedBits 8 (to_z w64 (of_z w64 z)) × (digit ≡ nat_abs (to_z w64 (of_z w64 z)))
     → (48 + digit) ∷ [] ≡ signed_decimal z
 one_digit digit z small fits is = digit_of digit z small (subst (λ y. FitsUnsignedBits 8 y × (digit ≡ nat_abs y)) (to_z-of_z w64 z fits) is)
+
+plain_digit : (z : ℤ) → int_lt z (pos 0) ≡ false → int_lt (pos 9) z ≡ false → (48 + nat_abs z) ∷ [] ≡ signed_decimal z
+plain_digit (pos n) low high = sym (decimal_digit n (omega (arith, ltb-false 9 n high)))
+plain_digit (negsuc n) low high = absurd cc
+
+-- the same of a number that is not below 0 and not above 9
+pub digit_between : (z : ℤ) → SFits w64 z → int_lt (to_z w64 (of_z w64 z)) (pos 0) ≡ false → int_lt (pos 9) (to_z w64 (of_z w64 z)) ≡ false
+    → (48 + nat_abs (to_z w64 (of_z w64 z))) ∷ [] ≡ signed_decimal z
+digit_between z fits low high = plain_digit (to_z w64 (of_z w64 z)) low high ∙ ap signed_decimal (to_z-of_z w64 z fits)
