@@ -1,5 +1,5 @@
 ghost use Rattle.std.specs.Prelude.{◌≡◌, ◌∷◌, []};
-ghost use Rattle.fx_check.specs.Acceptance.{Answers, callback_body_lines, callback_line, callbacks_lines, first_refused};
+ghost use Rattle.fx_check.specs.Acceptance.{RefusesAs, callback_body_lines, callback_line, callbacks_lines, first_refused};
 ghost use Rattle.fx_check.specs.Facts.{facts_of};
 
 use crate::fault::{CheckJob, StaticFault};
@@ -17,7 +17,7 @@ pub fn check_callbacks(
     job: &IndexedJob,
     callbacks: &[Callback],
 ) -> Result<(), CheckJob>
-    ensures { Answers result (first_refused (callbacks_lines (facts_of job.now) [] callbacks.now)) }
+    ensures { RefusesAs result (first_refused (callbacks_lines (facts_of job.now) [] callbacks.now)) }
 {
     for (index, callback) in callbacks.iter().enumerate() {
         check_callback(job, &callbacks[..index], callback)?;
@@ -32,7 +32,7 @@ fn check_callback(
     before: &[Callback],
     callback: &Callback,
 ) -> Result<(), CheckJob>
-    ensures { Answers result (first_refused (callback_line (facts_of job.now) before.now callback.now ∷ [])) }
+    ensures { RefusesAs result (first_refused (callback_line (facts_of job.now) before.now callback.now ∷ [])) }
 {
     let name = callback.name.as_slice();
     if is_declared(name, job.names()) || is_called(name, before) {
@@ -46,7 +46,7 @@ fn check_callback(
 
 // Checks the statements of a callback.
 fn check_body(alloc: Global, job: &IndexedJob, body: &[Stmt]) -> Result<(), CheckJob>
-    ensures { Answers result (first_refused (callback_body_lines (facts_of job.now) 0 body.now)) }
+    ensures { RefusesAs result (first_refused (callback_body_lines (facts_of job.now) 0 body.now)) }
 {
     for (index, statement) in body.iter().enumerate() {
         check_stmt(alloc, job, Surroundings::callback(index as u64), statement)?;
