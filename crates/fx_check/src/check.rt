@@ -4,7 +4,7 @@ ghost use Rattle.fx_check.specs.Acceptance.{RefusesAs, IsAccepted, IsUnrefused, 
 ghost use Rattle.fx_check.specs.Rules.{procs_of};
 
 use crate::accepted::Accepted;
-use crate::called::check_callbacks;
+use crate::callbacks::check_callbacks;
 use crate::fault::{CheckJob, StaticFault};
 use crate::head::{check_events, check_head, check_names};
 use crate::limits::MOST_WORK;

@@ -3,10 +3,10 @@ ghost use Rattle.fx_check.specs.Acceptance.{RefusesAs, callback_body_lines, faul
 ghost use Rattle.fx_check.specs.Facts.{facts_of};
 
 use crate::fault::{CheckJob, StaticFault};
-use crate::inside::stores_inside;
 use crate::rules::{
     agrees_on_group, agrees_on_member, has_room, is_in_range, is_known, is_placed, is_uniform,
 };
+use crate::subsets::stores_inside;
 use crate::surroundings::Surroundings;
 use crate::tables::IndexedJob;
 use fx_base::NoMemory;
