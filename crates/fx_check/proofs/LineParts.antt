@@ -4,7 +4,7 @@ use Rattle.std.specs.Prelude.{IfOk}
 use Rattle.fx_script.specs.declared.job.Job.{Job}
 use Rattle.fx_check.specs.declared.fault.CheckJob.{CheckJob}
 use Rattle.fx_check.specs.declared.fault.CheckJob.TheVariants as check
-use Rattle.fx_check.specs.Acceptance.{Line, IsAccepted, head_lines, decl_lines, callbacks_lines, stmts_lines, event_lines, lines_of, first_refused, work_refused, refusal_of, Tells, Answers, IsUnrefused}
+use Rattle.fx_check.specs.Acceptance.{Line, IsAccepted, head_lines, decl_lines, callbacks_lines, stmts_lines, event_lines, lines_of, first_refused, work_refused, refusal_of, Tells, RefusesAs, IsUnrefused}
 use Rattle.fx_check.specs.Facts.{facts_of}
 use Rattle.fx_check.specs.Rules.{procs_of, body_place}
 use Rattle.fx_check.proofs.Accepting.{none_if_accepted, accepted_if_none}
@@ -66,11 +66,11 @@ line_refuses job (check.Refused fault spot) is = ap (work_refused job) is
 line_refuses job check.NoMemory is = tt
 
 -- an answer that is exact refuses no job that is accepted
-pub unrefused : {X : Type 0} (r : Result X CheckJob) (job : Job) → Answers r (refusal_of job) → IsAccepted job → IsUnrefused r
+pub unrefused : {X : Type 0} (r : Result X CheckJob) (job : Job) → RefusesAs r (refusal_of job) → IsAccepted job → IsUnrefused r
 unrefused (Ok x) job is accepted = tt
 unrefused (Err check.NoMemory) job is accepted = tt
 unrefused (Err (check.Refused fault spot)) job is accepted = let both : None ≡ Some _ = sym (none_if_accepted job accepted) ∙ is in absurd cc
 
-pub all_accepted : (r : Result Job CheckJob) (job : Job) → IfOk r (λ accepted. accepted ≡ job) → Answers r (refusal_of job) → IfOk r (λ accepted. IsAccepted accepted)
+pub all_accepted : (r : Result Job CheckJob) (job : Job) → IfOk r (λ accepted. accepted ≡ job) → RefusesAs r (refusal_of job) → IfOk r (λ accepted. IsAccepted accepted)
 all_accepted (Ok x) job same is = subst (λ (j : Job). IsAccepted j) (sym same) (accepted_if_none job is)
 all_accepted (Err e) job same is = tt

@@ -17,7 +17,7 @@ use Rattle.fx_check.specs.declared.fault.CheckJob.{CheckJob}
 use Rattle.fx_check.specs.declared.fault.CheckJob.TheVariants as check
 use Rattle.fx_check.specs.declared.fault.StaticFault.{StaticFault}
 use Rattle.fx_check.specs.declared.surroundings.Surroundings.{Surroundings}
-use Rattle.fx_check.specs.Acceptance.{Line, Refused, stmt_line, line_of, lines_at, stmt_lines_level, stmt_lines, stmts_lines, fault_of, first_or, first_refused, Tells, Answers}
+use Rattle.fx_check.specs.Acceptance.{Line, Refused, stmt_line, judged_line, lines_at, stmt_lines_level, stmt_lines, stmts_lines, fault_of, first_or, first_refused, Tells, RefusesAs}
 use Rattle.fx_check.specs.Facts.{Facts, or_first}
 use Rattle.fx_check.proofs.Accepting.{keeps}
 use Rattle.fx_check.specs.Rules.{inside_when, inside_if, inside_for}
@@ -33,10 +33,10 @@ refused_append [] b = refl
 refused_append (l ∷ a) b = ap (first_or l.spot (fault_of l)) (refused_append a b) ∙ or_of_or l.spot (fault_of l) (first_refused a) (first_refused b)
 
 -- where the first lines give no refusal, the others do
-pub answers_on : {X : Type 0} (r : Result X CheckJob) (a b : List Line) → first_refused a ≡ None → Answers r (first_refused b) → Answers r (first_refused (a ++ b))
+pub answers_on : {X : Type 0} (r : Result X CheckJob) (a b : List Line) → first_refused a ≡ None → RefusesAs r (first_refused b) → RefusesAs r (first_refused (a ++ b))
 answers_on r a b none then =
     let same : first_refused (a ++ b) ≡ first_refused b = refused_append a b ∙ ap (λ (o : Option Refused). or_first o (first_refused b)) none in
-    subst (λ (o : Option Refused). Answers r o) (sym same) then
+    subst (λ (o : Option Refused). RefusesAs r o) (sym same) then
 
 -- a refusal of the first lines is that of all
 pub answers_stop : (e : CheckJob) (a b : List Line) → Tells e (first_refused a) → Tells e (first_refused (a ++ b))
@@ -78,38 +78,38 @@ lines_map : (f : Facts) (ss : List Stmt) (p : Surroundings) → lines_at (map (s
 lines_map f [] p = refl
 lines_map f (s ∷ ss) p = ap (λ (l : List Line). stmt_lines f s p ++ l) (lines_map f ss p)
 
-pub when_lines : (f : Facts) (p : Surroundings) (s : Stmt) (spot : Spot) (role : Role) (body : List Stmt) → s ≡ stmt.RoleOnly spot role body → stmt_lines f s p ≡ line_of f p s ∷ stmts_lines f body (inside_when p)
+pub when_lines : (f : Facts) (p : Surroundings) (s : Stmt) (spot : Spot) (role : Role) (body : List Stmt) → s ≡ stmt.RoleOnly spot role body → stmt_lines f s p ≡ judged_line f p s ∷ stmts_lines f body (inside_when p)
 when_lines f p s spot role body is =
     let x : Stmt-F Stmt = Stmt-F.RoleOnly spot role body in
     let rolled = is ∙ sym (stmt.rolls-RoleOnly spot role body) in
     ap (λ (t : Stmt). stmt_lines f t p) rolled ∙ ap (λ (l : Surroundings → List Line). l p) (fold-roll-Stmt (Surroundings → List Line) (stmt_lines_level f) x)
     ∙ ap (λ (l : List Line). stmt_line f p x ∷ l) (lines_map f body (inside_when p))
-    ∙ ap (λ (l : Line). l ∷ stmts_lines f body (inside_when p)) (sym (ap (line_of f p) rolled ∙ ap (λ (y : Stmt-F Stmt). stmt_line f p y) (out-roll-Stmt x)))
+    ∙ ap (λ (l : Line). l ∷ stmts_lines f body (inside_when p)) (sym (ap (judged_line f p) rolled ∙ ap (λ (y : Stmt-F Stmt). stmt_line f p y) (out-roll-Stmt x)))
 
 pub for_lines : (f : Facts) (p : Surroundings) (s : Stmt) (spot : Spot) (counter : List ℕ) (first : Expr) (last : ℤ) (body : List Stmt) → s ≡ stmt.Loop spot counter first last body
-    → stmt_lines f s p ≡ line_of f p s ∷ stmts_lines f body (inside_for p)
+    → stmt_lines f s p ≡ judged_line f p s ∷ stmts_lines f body (inside_for p)
 for_lines f p s spot counter first last body is =
     let x : Stmt-F Stmt = Stmt-F.Loop spot counter first last body in
     let rolled = is ∙ sym (stmt.rolls-Loop spot counter first last body) in
     ap (λ (t : Stmt). stmt_lines f t p) rolled ∙ ap (λ (l : Surroundings → List Line). l p) (fold-roll-Stmt (Surroundings → List Line) (stmt_lines_level f) x)
     ∙ ap (λ (l : List Line). stmt_line f p x ∷ l) (lines_map f body (inside_for p))
-    ∙ ap (λ (l : Line). l ∷ stmts_lines f body (inside_for p)) (sym (ap (line_of f p) rolled ∙ ap (λ (y : Stmt-F Stmt). stmt_line f p y) (out-roll-Stmt x)))
+    ∙ ap (λ (l : Line). l ∷ stmts_lines f body (inside_for p)) (sym (ap (judged_line f p) rolled ∙ ap (λ (y : Stmt-F Stmt). stmt_line f p y) (out-roll-Stmt x)))
 
 pub if_lines : (f : Facts) (p : Surroundings) (s : Stmt) (spot : Spot) (t : Test) (left right : Expr) (chosen other : List Stmt) (o : Option (List Stmt)) → s ≡ stmt.Branch spot t left right chosen o → o ≡ Some other
-    → stmt_lines f s p ≡ line_of f p s ∷ (stmts_lines f chosen (inside_if p) ++ stmts_lines f other (inside_if p))
+    → stmt_lines f s p ≡ judged_line f p s ∷ (stmts_lines f chosen (inside_if p) ++ stmts_lines f other (inside_if p))
 if_lines f p s spot t left right chosen other o is some =
     let x : Stmt-F Stmt = Stmt-F.Branch spot t left right chosen (Some other) in
     let rolled = is ∙ ap (λ (y : Option (List Stmt)). stmt.Branch spot t left right chosen y) some ∙ sym (stmt.rolls-Branch spot t left right chosen (Some other)) in
     ap (λ (y : Stmt). stmt_lines f y p) rolled ∙ ap (λ (l : Surroundings → List Line). l p) (fold-roll-Stmt (Surroundings → List Line) (stmt_lines_level f) x)
     ∙ ap (λ (l : List Line). stmt_line f p x ∷ (l ++ lines_at (map (stmt_lines f) other) (inside_if p))) (lines_map f chosen (inside_if p))
     ∙ ap (λ (l : List Line). stmt_line f p x ∷ (stmts_lines f chosen (inside_if p) ++ l)) (lines_map f other (inside_if p))
-    ∙ ap (λ (l : Line). l ∷ (stmts_lines f chosen (inside_if p) ++ stmts_lines f other (inside_if p))) (sym (ap (line_of f p) rolled ∙ ap (λ (y : Stmt-F Stmt). stmt_line f p y) (out-roll-Stmt x)))
+    ∙ ap (λ (l : Line). l ∷ (stmts_lines f chosen (inside_if p) ++ stmts_lines f other (inside_if p))) (sym (ap (judged_line f p) rolled ∙ ap (λ (y : Stmt-F Stmt). stmt_line f p y) (out-roll-Stmt x)))
 
 -- what is behind the first line of a statement, which isn't refused, answers for all
-pub answers_behind : {X : Type 0} (r : Result X CheckJob) (l : Line) (ls all : List Line) → all ≡ l ∷ ls → fault_of l ≡ None → Answers r (first_refused ls) → Answers r (first_refused all)
+pub answers_behind : {X : Type 0} (r : Result X CheckJob) (l : Line) (ls all : List Line) → all ≡ l ∷ ls → fault_of l ≡ None → RefusesAs r (first_refused ls) → RefusesAs r (first_refused all)
 answers_behind r l ls all is none then =
     let same : first_refused all ≡ first_refused ls = ap first_refused is ∙ ap (λ (o : Option StaticFault). first_or l.spot o (first_refused ls)) none in
-    subst (λ (o : Option Refused). Answers r o) (sym same) then
+    subst (λ (o : Option Refused). RefusesAs r o) (sym same) then
 
 pub refuses_behind : (e : CheckJob) (l : Line) (ls all : List Line) → all ≡ l ∷ ls → fault_of l ≡ None → Tells e (first_refused ls) → Tells e (first_refused all)
 refuses_behind e l ls all is none then =
@@ -123,19 +123,19 @@ lines_from f p ss i s within is =
     ap (λ (l : List Stmt). stmts_lines f l p) from
 
 pub if_alone_lines : (f : Facts) (p : Surroundings) (s : Stmt) (spot : Spot) (t : Test) (left right : Expr) (chosen : List Stmt) (o : Option (List Stmt)) → s ≡ stmt.Branch spot t left right chosen o → o ≡ None
-    → stmt_lines f s p ≡ line_of f p s ∷ stmts_lines f chosen (inside_if p)
+    → stmt_lines f s p ≡ judged_line f p s ∷ stmts_lines f chosen (inside_if p)
 if_alone_lines f p s spot t left right chosen o is none =
     let x : Stmt-F Stmt = Stmt-F.Branch spot t left right chosen None in
     let rolled = is ∙ ap (λ (y : Option (List Stmt)). stmt.Branch spot t left right chosen y) none ∙ sym (stmt.rolls-Branch spot t left right chosen None) in
     ap (λ (y : Stmt). stmt_lines f y p) rolled ∙ ap (λ (l : Surroundings → List Line). l p) (fold-roll-Stmt (Surroundings → List Line) (stmt_lines_level f) x)
     ∙ ap (λ (l : List Line). stmt_line f p x ∷ l) (append-nil (lines_at (map (stmt_lines f) chosen) (inside_if p)) ∙ lines_map f chosen (inside_if p))
-    ∙ ap (λ (l : Line). l ∷ stmts_lines f chosen (inside_if p)) (sym (ap (line_of f p) rolled ∙ ap (λ (y : Stmt-F Stmt). stmt_line f p y) (out-roll-Stmt x)))
+    ∙ ap (λ (l : Line). l ∷ stmts_lines f chosen (inside_if p)) (sym (ap (judged_line f p) rolled ∙ ap (λ (y : Stmt-F Stmt). stmt_line f p y) (out-roll-Stmt x)))
 
 -- a branch's lines begin with those of its first list
 pub if_begins : (f : Facts) (p : Surroundings) (s : Stmt) (spot : Spot) (t : Test) (left right : Expr) (chosen : List Stmt) (o : Option (List Stmt)) → s ≡ stmt.Branch spot t left right chosen o
-    → (rest : List Line) × (stmt_lines f s p ≡ line_of f p s ∷ (stmts_lines f chosen (inside_if p) ++ rest))
+    → (rest : List Line) × (stmt_lines f s p ≡ judged_line f p s ∷ (stmts_lines f chosen (inside_if p) ++ rest))
 if_begins f p s spot t left right chosen None is =
-    ([], if_alone_lines f p s spot t left right chosen None is refl ∙ ap (λ (l : List Line). line_of f p s ∷ l) (sym (append-nil (stmts_lines f chosen (inside_if p)))))
+    ([], if_alone_lines f p s spot t left right chosen None is refl ∙ ap (λ (l : List Line). judged_line f p s ∷ l) (sym (append-nil (stmts_lines f chosen (inside_if p)))))
 if_begins f p s spot t left right chosen (Some other) is =
     (stmts_lines f other (inside_if p), if_lines f p s spot t left right chosen other (Some other) is refl)
 
@@ -145,25 +145,25 @@ none_roomy : (l : Line) → fault_of l ≡ None → l.roomy ≡ true
 none_roomy l none = (keeps l none).roomy
 
 pub if_room : (f : Facts) (p : Surroundings) (s : Stmt) (spot : Spot) (t : Test) (left right : Expr) (chosen : List Stmt) (o : Option (List Stmt)) → s ≡ stmt.Branch spot t left right chosen o
-    → fault_of (line_of f p s) ≡ None → p.blocks < 8
+    → fault_of (judged_line f p s) ≡ None → p.blocks < 8
 if_room f p s spot t left right chosen o is none =
     let x : Stmt-F Stmt = Stmt-F.Branch spot t left right chosen o in
     let rolled = is ∙ sym (stmt.rolls-Branch spot t left right chosen o) in
-    let roomy : (nat_lt p.before 16 && nat_lt p.blocks 8) ≡ true = sym (ap (λ (y : Stmt). (line_of f p y).roomy) rolled ∙ ap (λ (l : Line). l.roomy) (ap (λ (y : Stmt-F Stmt). stmt_line f p y) (out-roll-Stmt x))) ∙ none_roomy (line_of f p s) none in
+    let roomy : (nat_lt p.before 16 && nat_lt p.blocks 8) ≡ true = sym (ap (λ (y : Stmt). (judged_line f p y).roomy) rolled ∙ ap (λ (l : Line). l.roomy) (ap (λ (y : Stmt-F Stmt). stmt_line f p y) (out-roll-Stmt x))) ∙ none_roomy (judged_line f p s) none in
     ltb-true p.blocks 8 (and_parts (nat_lt p.before 16) (nat_lt p.blocks 8) roomy).1
 
 pub for_room : (f : Facts) (p : Surroundings) (s : Stmt) (spot : Spot) (counter : List ℕ) (first : Expr) (last : ℤ) (body : List Stmt) → s ≡ stmt.Loop spot counter first last body
-    → fault_of (line_of f p s) ≡ None → (p.blocks < 8) × (p.loops < 4)
+    → fault_of (judged_line f p s) ≡ None → (p.blocks < 8) × (p.loops < 4)
 for_room f p s spot counter first last body is none =
     let x : Stmt-F Stmt = Stmt-F.Loop spot counter first last body in
     let rolled = is ∙ sym (stmt.rolls-Loop spot counter first last body) in
-    let roomy : (nat_lt p.before 16 && nat_lt p.blocks 8 && nat_lt p.loops 4) ≡ true = sym (ap (λ (y : Stmt). (line_of f p y).roomy) rolled ∙ ap (λ (l : Line). l.roomy) (ap (λ (y : Stmt-F Stmt). stmt_line f p y) (out-roll-Stmt x))) ∙ none_roomy (line_of f p s) none in
+    let roomy : (nat_lt p.before 16 && nat_lt p.blocks 8 && nat_lt p.loops 4) ≡ true = sym (ap (λ (y : Stmt). (judged_line f p y).roomy) rolled ∙ ap (λ (l : Line). l.roomy) (ap (λ (y : Stmt-F Stmt). stmt_line f p y) (out-roll-Stmt x))) ∙ none_roomy (judged_line f p s) none in
     let both = and_parts (nat_lt p.before 16 && nat_lt p.blocks 8) (nat_lt p.loops 4) roomy in
     (ltb-true p.blocks 8 (and_parts (nat_lt p.before 16) (nat_lt p.blocks 8) both.0).1, ltb-true p.loops 4 both.1)
 
-pub when_room : (f : Facts) (p : Surroundings) (s : Stmt) (spot : Spot) (role : Role) (body : List Stmt) → s ≡ stmt.RoleOnly spot role body → fault_of (line_of f p s) ≡ None → p.blocks < 8
+pub when_room : (f : Facts) (p : Surroundings) (s : Stmt) (spot : Spot) (role : Role) (body : List Stmt) → s ≡ stmt.RoleOnly spot role body → fault_of (judged_line f p s) ≡ None → p.blocks < 8
 when_room f p s spot role body is none =
     let x : Stmt-F Stmt = Stmt-F.RoleOnly spot role body in
     let rolled = is ∙ sym (stmt.rolls-RoleOnly spot role body) in
-    let roomy : (nat_lt p.before 16 && nat_lt p.blocks 8) ≡ true = sym (ap (λ (y : Stmt). (line_of f p y).roomy) rolled ∙ ap (λ (l : Line). l.roomy) (ap (λ (y : Stmt-F Stmt). stmt_line f p y) (out-roll-Stmt x))) ∙ none_roomy (line_of f p s) none in
+    let roomy : (nat_lt p.before 16 && nat_lt p.blocks 8) ≡ true = sym (ap (λ (y : Stmt). (judged_line f p y).roomy) rolled ∙ ap (λ (l : Line). l.roomy) (ap (λ (y : Stmt-F Stmt). stmt_line f p y) (out-roll-Stmt x))) ∙ none_roomy (judged_line f p s) none in
     ltb-true p.blocks 8 (and_parts (nat_lt p.before 16) (nat_lt p.blocks 8) roomy).1

@@ -99,8 +99,8 @@ stmt_line f p s = record {
 }
 
 -- the first line of a statement of its own
-abbrev pub line_of : Facts → Surroundings → Stmt → Line
-line_of f p s = stmt_line f p (out-Stmt s)
+abbrev pub judged_line : Facts → Surroundings → Stmt → Line
+judged_line f p s = stmt_line f p (out-Stmt s)
 
 -- the lines of a list of statements, each of which gives its own at a place
 abbrev pub lines_at : {L : Type 0} → List (Surroundings → List L) → Surroundings → List L
@@ -216,9 +216,9 @@ Tells (check.Refused fault spot) refusal = refusal ≡ Some (record { fault = fa
 Tells check.NoMemory refusal = Unit {0}
 
 -- the answer is what this refusal is: Ok exactly where there is none
-abbrev pub Answers : {X : Type 0} → Result X CheckJob → Option Refused → Type 0
-Answers (Ok x) refusal = refusal ≡ None
-Answers (Err e) refusal = Tells e refusal
+abbrev pub RefusesAs : {X : Type 0} → Result X CheckJob → Option Refused → Type 0
+RefusesAs (Ok x) refusal = refusal ≡ None
+RefusesAs (Err e) refusal = Tells e refusal
 
 -- the answer isn't a refusal
 abbrev pub IsUnrefused : {X : Type 0} → Result X CheckJob → Type 0

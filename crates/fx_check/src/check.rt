@@ -1,10 +1,10 @@
 ghost use Rattle.std.specs.Prelude.{◌≡◌, IfOk};
 ghost use Rattle.fx_script.specs.Canonical.{HasText};
-ghost use Rattle.fx_check.specs.Acceptance.{Answers, IsAccepted, IsUnrefused, first_refused, lines_of, refusal_of};
+ghost use Rattle.fx_check.specs.Acceptance.{RefusesAs, IsAccepted, IsUnrefused, first_refused, lines_of, refusal_of};
 ghost use Rattle.fx_check.specs.Rules.{procs_of};
 
 use crate::accepted::Accepted;
-use crate::called::check_callbacks;
+use crate::callbacks::check_callbacks;
 use crate::fault::{CheckJob, StaticFault};
 use crate::head::{check_events, check_head, check_names};
 use crate::limits::MOST_WORK;
@@ -28,7 +28,7 @@ pub fn check_job(alloc: Global, job: Job) -> Result<Accepted, CheckJob>
     // A job that keeps every rule isn't refused.
     ensures only { IsAccepted job → IsUnrefused result }
     // Which refusal it is: none exactly where the job keeps every rule.
-    ensures exact { Answers result (refusal_of job) }
+    ensures exact { RefusesAs result (refusal_of job) }
 {
     check_exactly(alloc, job)
 }
@@ -36,7 +36,7 @@ pub fn check_job(alloc: Global, job: Job) -> Result<Accepted, CheckJob>
 fn check_exactly(alloc: Global, job: Job) -> Result<Accepted, CheckJob>
     requires { HasText job }
     ensures same { IfOk result (λ accepted. accepted ≡ job) }
-    ensures exact { Answers result (refusal_of job) }
+    ensures exact { RefusesAs result (refusal_of job) }
 {
     let procs = check_lines(alloc, &job)?;
     let work = work_up_to_limit(job.body.as_slice());
@@ -49,7 +49,7 @@ fn check_exactly(alloc: Global, job: Job) -> Result<Accepted, CheckJob>
 // Checks the lines of a job in their order, and gives how many processes it has.
 fn check_lines(alloc: Global, job: &Job) -> Result<u8, CheckJob>
     ensures same { IfOk result (λ procs. procs ≡ procs_of job.now) }
-    ensures exact { Answers result (first_refused (lines_of job.now)) }
+    ensures exact { RefusesAs result (first_refused (lines_of job.now)) }
 {
     let procs = check_head(job)?;
     check_names(job.names.as_slice())?;

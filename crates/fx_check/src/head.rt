@@ -1,6 +1,6 @@
 ghost use Rattle.std.specs.Prelude.{◌≡◌, ◌∷◌, [], IfOk, length};
 ghost use Rattle.std.specs.List.{filter};
-ghost use Rattle.fx_check.specs.Acceptance.{Answers, decl_line, decl_lines, event_lines, first_refused, has_decl_room, head_lines, is_decl_in_range};
+ghost use Rattle.fx_check.specs.Acceptance.{RefusesAs, decl_line, decl_lines, event_lines, first_refused, has_decl_room, head_lines, is_decl_in_range};
 ghost use Rattle.fx_check.specs.Facts.{is_array_decl, is_counter_decl};
 ghost use Rattle.fx_check.specs.Rules.{is_event_in_range, procs_of};
 
@@ -16,7 +16,7 @@ use fx_script::{Decl, Event, EventKind, Job};
 /// Checks the first lines of a job, and gives how many processes it has.
 pub fn check_head(job: &Job) -> Result<u8, CheckJob>
     ensures same { IfOk result (λ procs. procs ≡ procs_of job.now) }
-    ensures exact { Answers result (first_refused (head_lines job.now)) }
+    ensures exact { RefusesAs result (first_refused (head_lines job.now)) }
 {
     if !is_between(1, MOST_PROCS, job.ranks) {
         return Err(CheckJob::Refused(StaticFault::OutOfRange, job.ranks_spot));
@@ -32,7 +32,7 @@ pub fn check_head(job: &Job) -> Result<u8, CheckJob>
 
 /// Checks what a job declares.
 pub fn check_names(names: &[Decl]) -> Result<(), CheckJob>
-    ensures { Answers result (first_refused (decl_lines [] names.now)) }
+    ensures { RefusesAs result (first_refused (decl_lines [] names.now)) }
 {
     for (index, decl) in names.iter().enumerate() {
         check_decl(&names[..index], decl)?;
@@ -42,7 +42,7 @@ pub fn check_names(names: &[Decl]) -> Result<(), CheckJob>
 
 // Checks a declaration behind these.
 fn check_decl(before: &[Decl], decl: &Decl) -> Result<(), CheckJob>
-    ensures { Answers result (first_refused (decl_line before.now decl.now ∷ [])) }
+    ensures { RefusesAs result (first_refused (decl_line before.now decl.now ∷ [])) }
 {
     if is_declared(name_of(decl), before) {
         return Err(CheckJob::Refused(StaticFault::NameTwice, decl_spot(decl)));
@@ -91,7 +91,7 @@ fn counters_in(names: &[Decl]) -> usize
 
 /// Checks the events of a job of so many processes.
 pub fn check_events(procs: u8, events: &[Event]) -> Result<(), CheckJob>
-    ensures { Answers result (first_refused (event_lines procs 0 events.now)) }
+    ensures { RefusesAs result (first_refused (event_lines procs 0 events.now)) }
 {
     for (index, event) in events.iter().enumerate() {
         if !is_event_in_range(procs, event.kind) || index >= MOST_EVENTS {

@@ -2,17 +2,17 @@
 #![tactic(auto)]
 
 mod accepted;
-mod called;
+mod callbacks;
 mod check;
 mod exprs;
 mod fault;
 mod head;
-mod inside;
 pub mod laws;
 mod limits;
 mod lookup;
 mod range;
 mod rules;
+mod subsets;
 mod surroundings;
 mod tables;
 mod walk;

@@ -1,12 +1,12 @@
 ghost use Rattle.std.specs.Prelude.{◌≡◌, ◌≤◌, IfOk, Ok};
-ghost use Rattle.fx_check.specs.Acceptance.{Answers, callback_body_lines, fault_of, first_refused, line_of, stmt_lines, stmts_lines};
+ghost use Rattle.fx_check.specs.Acceptance.{RefusesAs, callback_body_lines, fault_of, first_refused, judged_line, stmt_lines, stmts_lines};
 ghost use Rattle.fx_check.specs.Facts.{facts_of};
 
 use crate::fault::{CheckJob, StaticFault};
-use crate::inside::stores_inside;
 use crate::rules::{
     agrees_on_group, agrees_on_member, has_room, is_in_range, is_known, is_placed, is_uniform,
 };
+use crate::subsets::stores_inside;
 use crate::surroundings::Surroundings;
 use crate::tables::IndexedJob;
 use fx_base::NoMemory;
@@ -20,7 +20,7 @@ fn fault_at(
     place: Surroundings,
     statement: &Stmt,
 ) -> Result<Option<StaticFault>, NoMemory>
-    ensures { IfOk result (λ fault. fault ≡ fault_of (line_of (facts_of job.now) place statement.now)) }
+    ensures { IfOk result (λ fault. fault ≡ fault_of (judged_line (facts_of job.now) place statement.now)) }
 {
     if !is_known(job, statement) {
         Ok(Some(StaticFault::UnknownName))
@@ -51,7 +51,7 @@ pub fn check_stmts(
 ) -> Result<(), CheckJob>
     requires blocks { place.blocks ≤ 8 }
     requires loops { place.loops ≤ 4 }
-    ensures { Answers result (first_refused (stmts_lines (facts_of job.now) body.now place)) }
+    ensures { RefusesAs result (first_refused (stmts_lines (facts_of job.now) body.now place)) }
 {
     for statement in body {
         check_stmt(alloc, job, place, statement)?;
@@ -68,7 +68,7 @@ pub fn check_stmt(
 ) -> Result<(), CheckJob>
     requires blocks { place.blocks ≤ 8 }
     requires loops { place.loops ≤ 4 }
-    ensures { Answers result (first_refused (stmt_lines (facts_of job.now) statement.now place)) }
+    ensures { RefusesAs result (first_refused (stmt_lines (facts_of job.now) statement.now place)) }
 {
     if let Some(fault) = fault_at(alloc, job, place, statement)? {
         return Err(CheckJob::Refused(fault, statement.spot()));

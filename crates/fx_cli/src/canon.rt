@@ -1,7 +1,7 @@
 ghost use Rattle.fx_io.specs.Writing.{Puts};
 ghost use Rattle.fx_script.specs.Canonical.{HasText, canonical};
 
-use crate::put::put_lines;
+use crate::lines::put_lines;
 use fx_io::{PutEnd, Sink};
 use fx_script::{Job, print_job};
 use std::alloc::Global;

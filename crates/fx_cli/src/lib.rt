@@ -4,16 +4,16 @@
 mod built;
 mod canon;
 pub mod laws;
+mod lines;
 mod memory;
 mod mode;
-mod put;
+mod program;
 mod run;
 mod status;
-mod top;
 
 pub use memory::fenix_in_memory;
+pub use program::fenix;
 pub use status::{Refusal, Status, code};
-pub use top::fenix;
 
 #[cfg(test)]
 mod tests;

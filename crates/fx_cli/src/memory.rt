@@ -2,8 +2,8 @@ ghost use Rattle.std.specs.Prelude.{map, string_bytes};
 ghost use Rattle.fx_cli.specs.Dues.{due_to, input_of};
 ghost use Rattle.fx_cli.specs.Ends.{IsInMemory};
 
+use crate::program::fenix;
 use crate::status::Status;
-use crate::top::fenix;
 use fx_base::Bytes;
 use fx_io::{SureSink, SureSource};
 use std::alloc::Global;

@@ -5,7 +5,7 @@ ghost use Rattle.fx_script.specs.Canonical.{HasText};
 ghost use Rattle.fx_cli.specs.Built.{first_unbuilt};
 ghost use Rattle.fx_cli.specs.Journal.{body_walk, closing, ended_line, journal_of, opening, print_item, text_of, walk_items};
 
-use crate::put::{put_item, put_items};
+use crate::lines::{put_item, put_items};
 use fx_base::{Bytes, Epoch, Ident, NoMemory, Proc, Role, Seats};
 use fx_check::Accepted;
 use fx_flow::{At, Flow, Printed, View};

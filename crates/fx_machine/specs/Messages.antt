@@ -38,13 +38,13 @@ message_of (Help e k packed) = message.Help (epoch_no e) (call_no k) (shares_of 
 message_of (Give e k packed) = message.Give (epoch_no e) (call_no k) (shares_of packed)
 
 -- the text of a message
-abbrev pub text_of : Message → Text
-text_of (message.Join e kind) = Join e.0 kind
-text_of (message.Jest e r slots) = Jest e.0 r slots
-text_of (message.Part e k values) = Part e.0 k.0 values
-text_of (message.Vote e k slot) = Vote e.0 k.0 slot
-text_of (message.Est e k r slots) = Est e.0 k.0 r slots
-text_of (message.Share e k shares) = Share e.0 k.0 (packed_of shares)
-text_of (message.Tell e k known) = Tell e.0 k.0 (option_map known_text known)
-text_of (message.Help e k shares) = Help e.0 k.0 (packed_of shares)
-text_of (message.Give e k shares) = Give e.0 k.0 (packed_of shares)
+abbrev pub wire_text : Message → Text
+wire_text (message.Join e kind) = Join e.0 kind
+wire_text (message.Jest e r slots) = Jest e.0 r slots
+wire_text (message.Part e k values) = Part e.0 k.0 values
+wire_text (message.Vote e k slot) = Vote e.0 k.0 slot
+wire_text (message.Est e k r slots) = Est e.0 k.0 r slots
+wire_text (message.Share e k shares) = Share e.0 k.0 (packed_of shares)
+wire_text (message.Tell e k known) = Tell e.0 k.0 (option_map known_text known)
+wire_text (message.Help e k shares) = Help e.0 k.0 (packed_of shares)
+wire_text (message.Give e k shares) = Give e.0 k.0 (packed_of shares)

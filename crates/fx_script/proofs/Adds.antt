@@ -10,8 +10,8 @@ use Rattle.fx_text.specs.Numbers.{fits_64}
 use Rattle.fx_script.specs.declared.draft.Block.{Block}
 use Rattle.fx_script.specs.declared.draft.Block.TheVariants as block
 use Rattle.fx_script.specs.declared.draft.Draft.{Draft}
-use Rattle.fx_script.specs.declared.draft.Stage.{Stage}
-use Rattle.fx_script.specs.declared.draft.Stage.TheVariants as stage
+use Rattle.fx_script.specs.declared.draft.DuePart.{DuePart}
+use Rattle.fx_script.specs.declared.draft.DuePart.TheVariants as due_part
 use Rattle.fx_script.specs.declared.head.EdgeHead.{EdgeHead}
 use Rattle.fx_script.specs.declared.head.EdgeHead.TheVariants as edge
 use Rattle.fx_script.specs.declared.head.PartHead.{PartHead}
@@ -79,14 +79,14 @@ calls_more ls cs c =
 closes : (ls : List Entry) (first : Entry) (ss : List Entry) (last : Entry) → ls ++ first ∷ (ss ++ last ∷ []) ≡ ((ls ++ first ∷ []) ++ ss) ++ last ∷ []
 closes ls first ss last = sym (append_assoc ls (first ∷ []) (ss ++ last ∷ [])) ∙ sym (append_assoc (ls ++ first ∷ []) ss (last ∷ []))
 
-abbrev pub dr : Stage → Job → Callback → List Block → List Stmt → Draft
-dr s job c bs now = record { stage = s; job = job; callback = c; blocks = bs; now = now }
+abbrev pub dr : DuePart → Job → Callback → List Block → List Stmt → Draft
+dr s job c bs now = record { due_part = s; job = job; callback = c; blocks = bs; now = now }
 
-part_adds_at : (s : Stage) (job : Job) (c : Callback) (bs : List Block) (now : List Stmt) (spot : Spot) (p : PartHead) → part_stands s bs (part_word_in p) ≡ true → part_fits p ≡ true
+part_adds_at : (s : DuePart) (job : Job) (c : Callback) (bs : List Block) (now : List Stmt) (spot : Spot) (p : PartHead) → part_stands s bs (part_word_in p) ≡ true → part_fits p ≡ true
     → IsFine (dr s job c bs now) → Adds (dr s job c bs now) (part_moved (dr s job c bs now) spot p) (part_line spot p)
-part_adds_at stage.Fenix job c bs now spot part.Fenix may fits f =
+part_adds_at due_part.Fenix job c bs now spot part.Fenix may fits f =
     record { line = refl; fine = record { tidy = f.tidy; job = f.job; open_fits = f.open_fits } }
-part_adds_at stage.Ranks job c bs now spot (part.Ranks n) may fits f =
+part_adds_at due_part.Ranks job c bs now spot (part.Ranks n) may fits f =
     record {
       line = refl;
       fine = record {
@@ -95,7 +95,7 @@ part_adds_at stage.Ranks job c bs now spot (part.Ranks n) may fits f =
         job = record { ranks = fits; spares = f.job.spares; separation = f.job.separation; names = f.job.names; callbacks = f.job.callbacks; body = f.job.body; events = f.job.events };
       };
     }
-part_adds_at stage.Spares job c bs now spot (part.Spares n) may fits f =
+part_adds_at due_part.Spares job c bs now spot (part.Spares n) may fits f =
     record {
       line = refl;
       fine = record {
@@ -104,7 +104,7 @@ part_adds_at stage.Spares job c bs now spot (part.Spares n) may fits f =
         job = record { ranks = f.job.ranks; spares = fits; separation = f.job.separation; names = f.job.names; callbacks = f.job.callbacks; body = f.job.body; events = f.job.events };
       };
     }
-part_adds_at stage.Separation job c bs now spot (part.Separation n) may fits f =
+part_adds_at due_part.Separation job c bs now spot (part.Separation n) may fits f =
     record {
       line = rw f.tidy.0 refl;
       fine = record {
@@ -113,7 +113,7 @@ part_adds_at stage.Separation job c bs now spot (part.Separation n) may fits f =
         job = record { ranks = f.job.ranks; spares = f.job.spares; separation = fits; names = f.job.names; callbacks = f.job.callbacks; body = f.job.body; events = f.job.events };
       };
     }
-part_adds_at stage.Names job c bs now spot (part.Array name len) may fits f =
+part_adds_at due_part.Names job c bs now spot (part.Array name len) may fits f =
     record {
       line = simp (map-append, append_assoc);
       fine = record {
@@ -122,7 +122,7 @@ part_adds_at stage.Names job c bs now spot (part.Array name len) may fits f =
         job = record { ranks = f.job.ranks; spares = f.job.spares; separation = f.job.separation; names = all_push decl_fits job.names _ f.job.names fits; callbacks = f.job.callbacks; body = f.job.body; events = f.job.events };
       };
     }
-part_adds_at stage.Names job c bs now spot (part.Counter name) may fits f =
+part_adds_at due_part.Names job c bs now spot (part.Counter name) may fits f =
     record {
       line = simp (map-append, append_assoc);
       fine = record {
@@ -131,9 +131,9 @@ part_adds_at stage.Names job c bs now spot (part.Counter name) may fits f =
         job = record { ranks = f.job.ranks; spares = f.job.spares; separation = f.job.separation; names = all_push decl_fits job.names _ f.job.names fits; callbacks = f.job.callbacks; body = f.job.body; events = f.job.events };
       };
     }
-part_adds_at stage.Names job c bs now spot (part.Callback name) may fits f =
+part_adds_at due_part.Names job c bs now spot (part.Callback name) may fits f =
     record { line = rw (f.tidy.0, f.tidy.1.1, f.tidy.1.2) (starts (named job) (part_line spot (part.Callback name))); fine = record { tidy = (f.tidy.1.0, fits); job = f.job; open_fits = f.open_fits } }
-part_adds_at stage.Names job c bs now spot part.Begin may fits f =
+part_adds_at due_part.Names job c bs now spot part.Begin may fits f =
     record {
       line = rw (f.tidy.0, f.tidy.1.1, f.tidy.1.2) (starts (named job) (part_line spot part.Begin));
       fine = record {
@@ -142,9 +142,9 @@ part_adds_at stage.Names job c bs now spot part.Begin may fits f =
         job = record { ranks = f.job.ranks; spares = f.job.spares; separation = f.job.separation; names = f.job.names; callbacks = f.job.callbacks; body = f.job.body; events = f.job.events };
       };
     }
-part_adds_at stage.Callbacks job c bs now spot (part.Callback name) may fits f =
+part_adds_at due_part.Callbacks job c bs now spot (part.Callback name) may fits f =
     record { line = rw (f.tidy.1, f.tidy.2) (append-nil (called job ++ part_line spot (part.Callback name) ∷ [])); fine = record { tidy = (f.tidy.0, fits); job = f.job; open_fits = f.open_fits } }
-part_adds_at stage.Callbacks job c bs now spot part.Begin may fits f =
+part_adds_at due_part.Callbacks job c bs now spot part.Begin may fits f =
     record {
       line = rw (f.tidy.1, f.tidy.2) (append-nil (called job ++ part_line spot part.Begin ∷ []));
       fine = record {
@@ -153,7 +153,7 @@ part_adds_at stage.Callbacks job c bs now spot part.Begin may fits f =
         job = record { ranks = f.job.ranks; spares = f.job.spares; separation = f.job.separation; names = f.job.names; callbacks = f.job.callbacks; body = f.job.body; events = f.job.events };
       };
     }
-part_adds_at stage.Callback job c bs now spot part.EndCallback may fits f =
+part_adds_at due_part.Callback job c bs now spot part.EndCallback may fits f =
     let none = none_is bs may in
     let called_back : Callback = record c { body = now } in
     record {
@@ -172,7 +172,7 @@ part_adds_at stage.Callback job c bs now spot part.EndCallback may fits f =
         };
       };
     }
-part_adds_at stage.Body job c bs now spot part.End may fits f =
+part_adds_at due_part.Body job c bs now spot part.End may fits f =
     let none = none_is bs may in
     record {
       line = rw none refl;
@@ -182,14 +182,14 @@ part_adds_at stage.Body job c bs now spot part.End may fits f =
         job = record { ranks = f.job.ranks; spares = f.job.spares; separation = f.job.separation; names = f.job.names; callbacks = f.job.callbacks; body = room_64 bs now none f.open_fits; events = f.job.events };
       };
     }
-part_adds_at stage.Schedule job c bs now spot part.Schedule may fits f =
+part_adds_at due_part.Schedule job c bs now spot part.Schedule may fits f =
     record { line = rw f.tidy (append-nil (begun job ++ stmts_entries job.body ++ anywhere (codes "end") ∷ anywhere (codes "schedule") ∷ []) ∙ sym (append_assoc (begun job ++ stmts_entries job.body) (anywhere (codes "end") ∷ []) (anywhere (codes "schedule") ∷ []))); fine = record { tidy = tt; job = f.job; open_fits = f.open_fits } }
-part_adds_at stage.Events job c bs now spot part.Stop may fits f =
+part_adds_at due_part.Events job c bs now spot part.Stop may fits f =
     record { line = refl; fine = record { tidy = tt; job = f.job; open_fits = f.open_fits } }
 part_adds_at s job c bs now spot p may fits f = absurd cc
 
-pub part_adds : (d : Draft) (spot : Spot) (p : PartHead) → part_stands d.stage d.blocks (part_word_in p) ≡ true → part_fits p ≡ true → IsFine d → Adds d (part_moved d spot p) (part_line spot p)
-part_adds d spot p may fits f = part_adds_at d.stage d.job d.callback d.blocks d.now spot p may fits f
+pub part_adds : (d : Draft) (spot : Spot) (p : PartHead) → part_stands d.due_part d.blocks (part_word_in p) ≡ true → part_fits p ≡ true → IsFine d → Adds d (part_moved d spot p) (part_line spot p)
+part_adds d spot p may fits f = part_adds_at d.due_part d.job d.callback d.blocks d.now spot p may fits f
 
 -- ---- lines inside a callback or the body
 
@@ -201,19 +201,19 @@ pub record InnerAdds (bs : List Block) (now : List Stmt) (next : List Block) (th
 inside_line : (ls bef aft : List Entry) (e : Entry) → aft ≡ bef ++ e ∷ [] → ls ++ aft ≡ (ls ++ bef) ++ e ∷ []
 inside_line ls bef aft e is = ap (λ (l : List Entry). ls ++ l) is ∙ sym (append_assoc ls bef (e ∷ []))
 
-inside_adds_at : (s : Stage) (job : Job) (c : Callback) (bs : List Block) (now : List Stmt) (next : List Block) (then : List Stmt) (e : Entry) → is_inside s ≡ true → InnerAdds bs now next then e
+inside_adds_at : (s : DuePart) (job : Job) (c : Callback) (bs : List Block) (now : List Stmt) (next : List Block) (then : List Stmt) (e : Entry) → is_inside s ≡ true → InnerAdds bs now next then e
     → IsFine (dr s job c bs now) → Adds (dr s job c bs now) (dr s job c next then) e
-inside_adds_at stage.Callback job c bs now next then e may adds f =
+inside_adds_at due_part.Callback job c bs now next then e may adds f =
     record {
       line = inside_line (called job ++ kept_at c.spot (codes "callback" ∷ c.name ∷ []) ∷ []) (inner bs now) (inner next then) e adds.line;
       fine = record { tidy = f.tidy; job = f.job; open_fits = adds.fine f.open_fits };
     }
-inside_adds_at stage.Body job c bs now next then e may adds f =
+inside_adds_at due_part.Body job c bs now next then e may adds f =
     record { line = inside_line (begun job) (inner bs now) (inner next then) e adds.line; fine = record { tidy = f.tidy; job = f.job; open_fits = adds.fine f.open_fits } }
 inside_adds_at s job c bs now next then e may adds f = absurd cc
 
-pub inside_adds : (d : Draft) (next : List Block) (then : List Stmt) (e : Entry) → is_inside d.stage ≡ true → InnerAdds d.blocks d.now next then e → IsFine d → Adds d (record d { blocks = next; now = then }) e
-inside_adds d next then e may adds f = inside_adds_at d.stage d.job d.callback d.blocks d.now next then e may adds f
+pub inside_adds : (d : Draft) (next : List Block) (then : List Stmt) (e : Entry) → is_inside d.due_part ≡ true → InnerAdds d.blocks d.now next then e → IsFine d → Adds d (record d { blocks = next; now = then }) e
+inside_adds d next then e may adds f = inside_adds_at d.due_part d.job d.callback d.blocks d.now next then e may adds f
 
 -- a statement of one line
 pub simple_inner : (bs : List Block) (now : List Stmt) (s : Stmt) (e : Entry) → stmt_entries s ≡ e ∷ [] → ((room : ℕ) → stmt_fits s room ≡ true) → InnerAdds bs now bs (now ++ s ∷ []) e
@@ -267,7 +267,7 @@ closed_inner bs now before b s first ss last is line fits = record {
   };
 }
 
-edge_inner : (bs : List Block) (now : List Stmt) (spot : Spot) (e : EdgeHead) → edge_stands bs (edge_word_in e) ≡ true → edge_fits e ≡ true → (s : Stage) (job : Job) (c : Callback)
+edge_inner : (bs : List Block) (now : List Stmt) (spot : Spot) (e : EdgeHead) → edge_stands bs (edge_word_in e) ≡ true → edge_fits e ≡ true → (s : DuePart) (job : Job) (c : Callback)
     → InnerAdds bs now (edge_moved (dr s job c bs now) spot e).blocks (edge_moved (dr s job c bs now) spot e).now (edge_line spot e)
 edge_inner bs now spot (edge.When role) stands fits s job c =
     record { line = opened_line bs now (block.RoleOnly spot role now) (edge_line spot (edge.When role)) refl; fine = opened_fits bs now (block.RoleOnly spot role now) (ltb-true (length bs) 64 stands) (λ room before. before) }
@@ -316,7 +316,7 @@ edge_inner (block.Loop at counter first last before ∷ bs) now spot edge.EndFor
 edge_inner bs now spot e stands fits s job c = absurd cc
 
 -- such a line changes the open blocks and their statements alone
-edge_keeps : (s : Stage) (job : Job) (c : Callback) (bs : List Block) (now : List Stmt) (spot : Spot) (e : EdgeHead)
+edge_keeps : (s : DuePart) (job : Job) (c : Callback) (bs : List Block) (now : List Stmt) (spot : Spot) (e : EdgeHead)
     → edge_moved (dr s job c bs now) spot e ≡ dr s job c (edge_moved (dr s job c bs now) spot e).blocks (edge_moved (dr s job c bs now) spot e).now
 edge_keeps s job c bs now spot (edge.When role) = refl
 edge_keeps s job c bs now spot (edge.If test left right) = refl
@@ -333,20 +333,20 @@ edge_keeps s job c (b ∷ bs) now spot edge.EndIf = refl
 edge_keeps s job c [] now spot edge.EndFor = refl
 edge_keeps s job c (b ∷ bs) now spot edge.EndFor = refl
 
-pub edge_adds : (d : Draft) (spot : Spot) (e : EdgeHead) → is_inside d.stage ≡ true → edge_stands d.blocks (edge_word_in e) ≡ true → edge_fits e ≡ true → IsFine d
+pub edge_adds : (d : Draft) (spot : Spot) (e : EdgeHead) → is_inside d.due_part ≡ true → edge_stands d.blocks (edge_word_in e) ≡ true → edge_fits e ≡ true → IsFine d
     → Adds d (edge_moved d spot e) (edge_line spot e)
 edge_adds d spot e inside stands fits f =
-    subst (λ (next : Draft). Adds d next (edge_line spot e)) (sym (edge_keeps d.stage d.job d.callback d.blocks d.now spot e))
-    (inside_adds d (edge_moved d spot e).blocks (edge_moved d spot e).now (edge_line spot e) inside (edge_inner d.blocks d.now spot e stands fits d.stage d.job d.callback) f)
+    subst (λ (next : Draft). Adds d next (edge_line spot e)) (sym (edge_keeps d.due_part d.job d.callback d.blocks d.now spot e))
+    (inside_adds d (edge_moved d spot e).blocks (edge_moved d spot e).now (edge_line spot e) inside (edge_inner d.blocks d.now spot e stands fits d.due_part d.job d.callback) f)
 
-pub simple_adds : (d : Draft) (s : Stmt) (e : Entry) → is_inside d.stage ≡ true → stmt_entries s ≡ e ∷ [] → ((room : ℕ) → stmt_fits s room ≡ true) → IsFine d → Adds d (record d { now = d.now ++ s ∷ [] }) e
+pub simple_adds : (d : Draft) (s : Stmt) (e : Entry) → is_inside d.due_part ≡ true → stmt_entries s ≡ e ∷ [] → ((room : ℕ) → stmt_fits s room ≡ true) → IsFine d → Adds d (record d { now = d.now ++ s ∷ [] }) e
 simple_adds d s e inside is fits f = inside_adds d d.blocks (d.now ++ s ∷ []) e inside (simple_inner d.blocks d.now s e is fits) f
 
 -- ---- events
 
-event_adds_at : (s : Stage) (job : Job) (c : Callback) (bs : List Block) (now : List Stmt) (spot : Spot) (kind : EventKind) → is_scheduled s ≡ true → event_fits kind ≡ true → IsFine (dr s job c bs now)
+event_adds_at : (s : DuePart) (job : Job) (c : Callback) (bs : List Block) (now : List Stmt) (spot : Spot) (kind : EventKind) → is_scheduled s ≡ true → event_fits kind ≡ true → IsFine (dr s job c bs now)
     → Adds (dr s job c bs now) (dr s (record job { events = job.events ++ record { spot = spot; kind = kind } ∷ [] }) c bs now) (kept_at spot (event_words kind))
-event_adds_at stage.Events job c bs now spot kind may fits f = record {
+event_adds_at due_part.Events job c bs now spot kind may fits f = record {
   line = ap (λ (l : List Entry). begun job ++ stmts_entries job.body ++ anywhere (codes "end") ∷ anywhere (codes "schedule") ∷ [] ++ l) (map-append event_entry job.events (record { spot = spot; kind = kind } ∷ []))
       ∙ sym (append_assoc (begun job ++ stmts_entries job.body ++ anywhere (codes "end") ∷ anywhere (codes "schedule") ∷ []) (map event_entry job.events) (kept_at spot (event_words kind) ∷ []));
   fine = record {
@@ -365,6 +365,6 @@ event_adds_at stage.Events job c bs now spot kind may fits f = record {
 }
 event_adds_at s job c bs now spot kind may fits f = absurd cc
 
-pub event_adds : (d : Draft) (spot : Spot) (kind : EventKind) → is_scheduled d.stage ≡ true → event_fits kind ≡ true → IsFine d
+pub event_adds : (d : Draft) (spot : Spot) (kind : EventKind) → is_scheduled d.due_part ≡ true → event_fits kind ≡ true → IsFine d
     → Adds d (record d { job = record d.job { events = d.job.events ++ record { spot = spot; kind = kind } ∷ [] } }) (kept_at spot (event_words kind))
-event_adds d spot kind may fits f = event_adds_at d.stage d.job d.callback d.blocks d.now spot kind may fits f
+event_adds d spot kind may fits f = event_adds_at d.due_part d.job d.callback d.blocks d.now spot kind may fits f

@@ -13,8 +13,8 @@ use Rattle.fx_text.specs.Words.{Word}
 use Rattle.fx_script.specs.declared.draft.Block.{Block}
 use Rattle.fx_script.specs.declared.draft.Block.TheVariants as block
 use Rattle.fx_script.specs.declared.draft.Draft.{Draft}
-use Rattle.fx_script.specs.declared.draft.Stage.{Stage}
-use Rattle.fx_script.specs.declared.draft.Stage.TheVariants as stage
+use Rattle.fx_script.specs.declared.draft.DuePart.{DuePart}
+use Rattle.fx_script.specs.declared.draft.DuePart.TheVariants as due_part
 use Rattle.fx_script.specs.declared.head.EdgeHead.{EdgeHead}
 use Rattle.fx_script.specs.declared.head.EdgeHead.TheVariants as edge
 use Rattle.fx_script.specs.declared.head.Head.{Head}
@@ -108,7 +108,7 @@ keyword_again (k.Simple simple_word.Store) = refl
 keyword_again (k.Simple simple_word.Sum) = refl
 
 -- nothing may stand behind `stop`
-part_never : (bs : List Block) (word : PartWord) → part_stands stage.Stopped bs word ≡ false
+part_never : (bs : List Block) (word : PartWord) → part_stands due_part.Stopped bs word ≡ false
 part_never bs part_word.Fenix = refl
 part_never bs part_word.Ranks = refl
 part_never bs part_word.Spares = refl
@@ -122,26 +122,26 @@ part_never bs part_word.End = refl
 part_never bs part_word.Schedule = refl
 part_never bs part_word.Stop = refl
 
-never : (bs : List Block) (keyword : Keyword) → may_stand stage.Stopped bs keyword ≡ false
+never : (bs : List Block) (keyword : Keyword) → may_stand due_part.Stopped bs keyword ≡ false
 never bs (k.Part word) = part_never bs word
 never bs (k.Edge word) = refl
 never bs (k.Simple word) = refl
 never bs (k.Event word) = refl
 
 -- a line that may stand is read by its keyword
-in_place : (s : Stage) (bs : List Block) (keyword : Keyword) (spot : Spot) (first : Word) (left : Left) → may_stand s bs keyword ≡ true
+in_place : (s : DuePart) (bs : List Block) (keyword : Keyword) (spot : Spot) (first : Word) (left : Left) → may_stand s bs keyword ≡ true
     → head_in s bs spot first left ≡ head_placed s bs (keyword_of first.bytes) spot first left
-in_place stage.Stopped bs keyword spot first left may = let no' : false ≡ true = sym (never bs keyword) ∙ may in absurd cc
-in_place stage.Fenix bs keyword spot first left may = refl
-in_place stage.Ranks bs keyword spot first left may = refl
-in_place stage.Spares bs keyword spot first left may = refl
-in_place stage.Separation bs keyword spot first left may = refl
-in_place stage.Names bs keyword spot first left may = refl
-in_place stage.Callbacks bs keyword spot first left may = refl
-in_place stage.Callback bs keyword spot first left may = refl
-in_place stage.Body bs keyword spot first left may = refl
-in_place stage.Schedule bs keyword spot first left may = refl
-in_place stage.Events bs keyword spot first left may = refl
+in_place due_part.Stopped bs keyword spot first left may = let no' : false ≡ true = sym (never bs keyword) ∙ may in absurd cc
+in_place due_part.Fenix bs keyword spot first left may = refl
+in_place due_part.Ranks bs keyword spot first left may = refl
+in_place due_part.Spares bs keyword spot first left may = refl
+in_place due_part.Separation bs keyword spot first left may = refl
+in_place due_part.Names bs keyword spot first left may = refl
+in_place due_part.Callbacks bs keyword spot first left may = refl
+in_place due_part.Callback bs keyword spot first left may = refl
+in_place due_part.Body bs keyword spot first left may = refl
+in_place due_part.Schedule bs keyword spot first left may = refl
+in_place due_part.Events bs keyword spot first left may = refl
 
 -- ---- one line
 
@@ -150,11 +150,11 @@ abbrev pub Step : Draft → Entry → Draft → Type 0
 Step d e next = (m : Met) → IsLine m e → taken d (Some m) ≡ Ok next
 
 -- a line with this keyword and these words behind it, which are read as this head
-line_again : (d : Draft) (m : Met) (keyword : Keyword) (h : Head) → m.first.bytes ≡ keyword_text keyword → may_stand d.stage d.blocks keyword ≡ true → head_at keyword (spot_of m) m.left ≡ Ok h
+line_again : (d : Draft) (m : Met) (keyword : Keyword) (h : Head) → m.first.bytes ≡ keyword_text keyword → may_stand d.due_part d.blocks keyword ≡ true → head_at keyword (spot_of m) m.left ≡ Ok h
     → taken d (Some m) ≡ Ok (moved d (spot_of m) h)
 line_again d m keyword h is may read =
     let word : keyword_of m.first.bytes ≡ Some keyword = ap keyword_of is ∙ keyword_again keyword in
-    rw (in_place d.stage d.blocks keyword (spot_of m) m.first m.left may, word, may, read) refl
+    rw (in_place d.due_part d.blocks keyword (spot_of m) m.first m.left may, word, may, read) refl
 
 first_is : (m : Met) (text : List ℕ) (fields : List (List ℕ)) → words_in m ≡ text ∷ fields → m.first.bytes ≡ text
 first_is m text fields e = cc
@@ -162,22 +162,22 @@ first_is m text fields e = cc
 rest_is : (m : Met) (text : List ℕ) (fields : List (List ℕ)) → words_in m ≡ text ∷ fields → texts m.left ≡ fields
 rest_is m text fields e = cc
 
-part_read : (d : Draft) (m : Met) (p : PartHead) → part_stands d.stage d.blocks (part_word_in p) ≡ true → part_fits p ≡ true → words_in m ≡ part_text (part_word_in p) ∷ part_fields p
+part_read : (d : Draft) (m : Met) (p : PartHead) → part_stands d.due_part d.blocks (part_word_in p) ≡ true → part_fits p ≡ true → words_in m ≡ part_text (part_word_in p) ∷ part_fields p
     → taken d (Some m) ≡ Ok (part_moved d (spot_of m) p)
 part_read d m p may fits words =
     let rest = rest_is m (part_text (part_word_in p)) (part_fields p) words in
     let a = part_again p m.left [] fits (rest ∙ sym (append-nil (part_fields p))) in
     line_again d m (k.Part (part_word_in p)) (head.Part p) (first_is m (part_text (part_word_in p)) (part_fields p) words) may (rw (a.read, end_again a.left a.others) refl)
 
-edge_read : (d : Draft) (m : Met) (e : EdgeHead) → is_inside d.stage ≡ true → edge_stands d.blocks (edge_word_in e) ≡ true → edge_fits e ≡ true → words_in m ≡ edge_text (edge_word_in e) ∷ edge_fields e
+edge_read : (d : Draft) (m : Met) (e : EdgeHead) → is_inside d.due_part ≡ true → edge_stands d.blocks (edge_word_in e) ≡ true → edge_fits e ≡ true → words_in m ≡ edge_text (edge_word_in e) ∷ edge_fields e
     → taken d (Some m) ≡ Ok (edge_moved d (spot_of m) e)
 edge_read d m e inside may fits words =
     let rest = rest_is m (edge_text (edge_word_in e)) (edge_fields e) words in
     let a = edge_again e m.left [] fits (rest ∙ sym (append-nil (edge_fields e))) in
-    line_again d m (k.Edge (edge_word_in e)) (head.Edge e) (first_is m (edge_text (edge_word_in e)) (edge_fields e) words) (and_from (is_inside d.stage) (edge_stands d.blocks (edge_word_in e)) inside may)
+    line_again d m (k.Edge (edge_word_in e)) (head.Edge e) (first_is m (edge_text (edge_word_in e)) (edge_fields e) words) (and_from (is_inside d.due_part) (edge_stands d.blocks (edge_word_in e)) inside may)
     (rw (a.read, end_again a.left a.others) refl)
 
-simple_step : (d : Draft) (s : Stmt) (spot : Spot) → is_inside d.stage ≡ true → (a : SimpleLemmas.SimpleAgain s spot) → Step d (kept_at spot (simple_text a.word ∷ a.fields)) (record d { now = d.now ++ s ∷ [] })
+simple_step : (d : Draft) (s : Stmt) (spot : Spot) → is_inside d.due_part ≡ true → (a : SimpleLemmas.SimpleAgain s spot) → Step d (kept_at spot (simple_text a.word ∷ a.fields)) (record d { now = d.now ++ s ∷ [] })
 simple_step d s spot inside a m line =
     let rest = rest_is m (simple_text a.word) a.fields line.words in
     let r = a.again m.left rest in
@@ -188,7 +188,7 @@ simple_step d s spot inside a m line =
 abbrev took : Draft → Result Draft Wrong
 took d = Ok d
 
-event_step : (d : Draft) (spot : Spot) (kind : EventKind) → is_scheduled d.stage ≡ true → event_fits kind ≡ true
+event_step : (d : Draft) (spot : Spot) (kind : EventKind) → is_scheduled d.due_part ≡ true → event_fits kind ≡ true
     → Step d (kept_at spot (event_words kind)) (record d { job = record d.job { events = d.job.events ++ record { spot = spot; kind = kind } ∷ [] } })
 event_step d spot kind may fits m line =
     let words = line.words ∙ event_words_is kind in
@@ -212,7 +212,7 @@ leads_on d (e ∷ es) next more last leads then = (leads.0, leads.1, leads_on le
 
 -- a statement that fits is read from its lines wherever statements may stand
 abbrev pub IsAgain : Stmt → Type 0
-IsAgain s = (room : ℕ) (st : Stage) (job : Job) (c : Callback) (bs : List Block) (now : List Stmt) → stmt_fits s room ≡ true → is_inside st ≡ true → room + length bs ≡ 64
+IsAgain s = (room : ℕ) (st : DuePart) (job : Job) (c : Callback) (bs : List Block) (now : List Stmt) → stmt_fits s room ≡ true → is_inside st ≡ true → room + length bs ≡ 64
     → Leads (dr st job c bs now) (stmt_entries s) (dr st job c bs (now ++ s ∷ []))
 
 simple_case : (s : Stmt) (spot : Spot) (x : Stmt-F Stmt) → roll-Stmt x ≡ s → (opening_fits x ≡ true → SimpleLemmas.SimpleAgain s spot)
@@ -222,7 +222,7 @@ simple_case s spot x is again only room st job c bs now fits inside count =
     subst (λ (es : List Entry). Leads (dr st job c bs now) es (dr st job c bs (now ++ s ∷ []))) (sym a.entries) (dr st job c bs (now ++ s ∷ []), simple_step (dr st job c bs now) s spot inside a, refl)
 
 -- statements, one after another
-list_again : (ts : List ((s : Stmt) × IsAgain s)) (room : ℕ) (st : Stage) (job : Job) (c : Callback) (bs : List Block) (now : List Stmt) → stmts_fit (map (λ t. t.0) ts) room ≡ true → is_inside st ≡ true → room + length bs ≡ 64
+list_again : (ts : List ((s : Stmt) × IsAgain s)) (room : ℕ) (st : DuePart) (job : Job) (c : Callback) (bs : List Block) (now : List Stmt) → stmts_fit (map (λ t. t.0) ts) room ≡ true → is_inside st ≡ true → room + length bs ≡ 64
     → Leads (dr st job c bs now) (stmts_entries (map (λ t. t.0) ts)) (dr st job c bs (now ++ map (λ t. t.0) ts))
 list_again [] room st job c bs now fits inside count = rw (append-nil now) refl
 list_again (t ∷ ts) room st job c bs now fits inside count =
@@ -385,7 +385,7 @@ stmt_again = ind-Stmt IsAgain (λ x y is. subst (λ x. IsAgain (roll-Stmt x)) is
 
 -- ---- the parts of a job
 
-pub stmts_again : (ss : List Stmt) (room : ℕ) (st : Stage) (job : Job) (c : Callback) (bs : List Block) (now : List Stmt) → stmts_fit ss room ≡ true → is_inside st ≡ true → room + length bs ≡ 64
+pub stmts_again : (ss : List Stmt) (room : ℕ) (st : DuePart) (job : Job) (c : Callback) (bs : List Block) (now : List Stmt) → stmts_fit ss room ≡ true → is_inside st ≡ true → room + length bs ≡ 64
     → Leads (dr st job c bs now) (stmts_entries ss) (dr st job c bs (now ++ ss))
 stmts_again [] room st job c bs now fits inside count = rw (append-nil now) refl
 stmts_again (s ∷ ss) room st job c bs now fits inside count =
@@ -395,91 +395,91 @@ stmts_again (s ∷ ss) room st job c bs now fits inside count =
     (stmts_again ss room st job c bs (now ++ s ∷ []) parts.1 inside count))
 
 -- a draft between statements
-abbrev pub plain : Stage → Job → Draft
+abbrev pub plain : DuePart → Job → Draft
 plain s job = dr s job no_callback [] []
 
 names_lead : (job : Job) (before names : List Decl) → list_all decl_fits names ≡ true
-    → Leads (plain stage.Names (record job { names = before })) (map decl_entry names) (plain stage.Names (record job { names = before ++ names }))
+    → Leads (plain due_part.Names (record job { names = before })) (map decl_entry names) (plain due_part.Names (record job { names = before ++ names }))
 names_lead job before [] all = rw (append-nil before) refl
 names_lead job before (decl.Array spot name len ∷ names) all =
     let parts = and_parts (is_name name && fits_64 len) (list_all decl_fits names) all in
-    let d = plain stage.Names (record job { names = before }) in
-    let next = plain stage.Names (record job { names = before ++ decl.Array spot name len ∷ [] }) in (
+    let d = plain due_part.Names (record job { names = before }) in
+    let next = plain due_part.Names (record job { names = before ++ decl.Array spot name len ∷ [] }) in (
       next,
-      (λ m line. part_read d m (part.Array name len) refl parts.0 line.words ∙ ap (λ (at : Spot). took (plain stage.Names (record job { names = before ++ decl.Array at name len ∷ [] }))) (sym line.spot)),
-      subst (λ (l : List Decl). Leads next (map decl_entry names) (plain stage.Names (record job { names = l }))) (append_assoc before (decl.Array spot name len ∷ []) names)
+      (λ m line. part_read d m (part.Array name len) refl parts.0 line.words ∙ ap (λ (at : Spot). took (plain due_part.Names (record job { names = before ++ decl.Array at name len ∷ [] }))) (sym line.spot)),
+      subst (λ (l : List Decl). Leads next (map decl_entry names) (plain due_part.Names (record job { names = l }))) (append_assoc before (decl.Array spot name len ∷ []) names)
           (names_lead job (before ++ decl.Array spot name len ∷ []) names parts.1),
     )
 names_lead job before (decl.Counter spot name ∷ names) all =
     let parts = and_parts (is_name name) (list_all decl_fits names) all in
-    let d = plain stage.Names (record job { names = before }) in
-    let next = plain stage.Names (record job { names = before ++ decl.Counter spot name ∷ [] }) in (
+    let d = plain due_part.Names (record job { names = before }) in
+    let next = plain due_part.Names (record job { names = before ++ decl.Counter spot name ∷ [] }) in (
       next,
-      (λ m line. part_read d m (part.Counter name) refl parts.0 line.words ∙ ap (λ (at : Spot). took (plain stage.Names (record job { names = before ++ decl.Counter at name ∷ [] }))) (sym line.spot)),
-      subst (λ (l : List Decl). Leads next (map decl_entry names) (plain stage.Names (record job { names = l }))) (append_assoc before (decl.Counter spot name ∷ []) names)
+      (λ m line. part_read d m (part.Counter name) refl parts.0 line.words ∙ ap (λ (at : Spot). took (plain due_part.Names (record job { names = before ++ decl.Counter at name ∷ [] }))) (sym line.spot)),
+      subst (λ (l : List Decl). Leads next (map decl_entry names) (plain due_part.Names (record job { names = l }))) (append_assoc before (decl.Counter spot name ∷ []) names)
           (names_lead job (before ++ decl.Counter spot name ∷ []) names parts.1),
     )
 
 -- callbacks may stand, and `begin`
-pub record TakesCallbacks (s : Stage) : Type 0 where
+pub record TakesCallbacks (s : DuePart) : Type 0 where
   pub callback : part_stands s [] part_word.Callback ≡ true
   pub begin : part_stands s [] part_word.Begin ≡ true
 
-at_names : TakesCallbacks stage.Names
+at_names : TakesCallbacks due_part.Names
 at_names = record { callback = refl; begin = refl }
 
-at_callbacks : TakesCallbacks stage.Callbacks
+at_callbacks : TakesCallbacks due_part.Callbacks
 at_callbacks = record { callback = refl; begin = refl }
 
-callback_leads : (s : Stage) → TakesCallbacks s → (job : Job) (before : List Callback) (c : Callback) → callback_fits c ≡ true
-    → Leads (plain s (record job { callbacks = before })) (callback_entries c) (plain stage.Callbacks (record job { callbacks = before ++ c ∷ [] }))
+callback_leads : (s : DuePart) → TakesCallbacks s → (job : Job) (before : List Callback) (c : Callback) → callback_fits c ≡ true
+    → Leads (plain s (record job { callbacks = before })) (callback_entries c) (plain due_part.Callbacks (record job { callbacks = before ++ c ∷ [] }))
 callback_leads s takes job before c fits =
     let parts = and_parts (is_name c.name) (stmts_fit c.body 64) fits in
     let j = record job { callbacks = before } in
     let begun = record no_callback { spot = c.spot; name = c.name } in
     let d0 = plain s j in
-    let d1 = dr stage.Callback j begun [] [] in
-    let d2 = dr stage.Callback j begun [] c.body in
-    let last = plain stage.Callbacks (record job { callbacks = before ++ c ∷ [] }) in
+    let d1 = dr due_part.Callback j begun [] [] in
+    let d2 = dr due_part.Callback j begun [] c.body in
+    let last = plain due_part.Callbacks (record job { callbacks = before ++ c ∷ [] }) in
     block_again d0 d1 d2 last (part_line c.spot (part.Callback c.name)) (anywhere (codes "endcallback")) (stmts_entries c.body)
-    (λ m line. part_read d0 m (part.Callback c.name) takes.callback parts.0 line.words ∙ ap (λ (at : Spot). took (dr stage.Callback j (record no_callback { spot = at; name = c.name }) [] [])) (sym line.spot))
-    (stmts_again c.body 64 stage.Callback j begun [] [] parts.1 refl refl)
+    (λ m line. part_read d0 m (part.Callback c.name) takes.callback parts.0 line.words ∙ ap (λ (at : Spot). took (dr due_part.Callback j (record no_callback { spot = at; name = c.name }) [] [])) (sym line.spot))
+    (stmts_again c.body 64 due_part.Callback j begun [] [] parts.1 refl refl)
     (λ m line. part_read d2 m part.EndCallback refl refl line.words)
 
--- the stage behind some callbacks
-abbrev pub stage_behind : Stage → List Callback → Stage
-stage_behind s [] = s
-stage_behind s (c ∷ cs) = stage_behind stage.Callbacks cs
+-- the part that is due behind some callbacks
+abbrev pub due_part_behind : DuePart → List Callback → DuePart
+due_part_behind s [] = s
+due_part_behind s (c ∷ cs) = due_part_behind due_part.Callbacks cs
 
-still_takes : (s : Stage) (cs : List Callback) → TakesCallbacks s → TakesCallbacks (stage_behind s cs)
+still_takes : (s : DuePart) (cs : List Callback) → TakesCallbacks s → TakesCallbacks (due_part_behind s cs)
 still_takes s [] takes = takes
-still_takes s (c ∷ cs) takes = still_takes stage.Callbacks cs at_callbacks
+still_takes s (c ∷ cs) takes = still_takes due_part.Callbacks cs at_callbacks
 
-callbacks_lead : (s : Stage) → TakesCallbacks s → (job : Job) (before cs : List Callback) → list_all callback_fits cs ≡ true
-    → Leads (plain s (record job { callbacks = before })) (chained (map callback_entries cs)) (plain (stage_behind s cs) (record job { callbacks = before ++ cs }))
+callbacks_lead : (s : DuePart) → TakesCallbacks s → (job : Job) (before cs : List Callback) → list_all callback_fits cs ≡ true
+    → Leads (plain s (record job { callbacks = before })) (chained (map callback_entries cs)) (plain (due_part_behind s cs) (record job { callbacks = before ++ cs }))
 callbacks_lead s takes job before [] all = rw (append-nil before) refl
 callbacks_lead s takes job before (c ∷ cs) all =
     let parts = and_parts (callback_fits c) (list_all callback_fits cs) all in
-    let next = plain stage.Callbacks (record job { callbacks = before ++ c ∷ [] }) in
-    let last = plain (stage_behind stage.Callbacks cs) (record job { callbacks = before ++ c ∷ cs }) in
+    let next = plain due_part.Callbacks (record job { callbacks = before ++ c ∷ [] }) in
+    let last = plain (due_part_behind due_part.Callbacks cs) (record job { callbacks = before ++ c ∷ cs }) in
     leads_on (plain s (record job { callbacks = before })) (callback_entries c) next (chained (map callback_entries cs)) last (callback_leads s takes job before c parts.0)
-    (subst (λ (l : List Callback). Leads next (chained (map callback_entries cs)) (plain (stage_behind stage.Callbacks cs) (record job { callbacks = l }))) (append_assoc before (c ∷ []) cs)
-    (callbacks_lead stage.Callbacks at_callbacks job (before ++ c ∷ []) cs parts.1))
+    (subst (λ (l : List Callback). Leads next (chained (map callback_entries cs)) (plain (due_part_behind due_part.Callbacks cs) (record job { callbacks = l }))) (append_assoc before (c ∷ []) cs)
+    (callbacks_lead due_part.Callbacks at_callbacks job (before ++ c ∷ []) cs parts.1))
 
 events_lead : (job : Job) (before events : List Event) → list_all (λ e. event_fits e.kind) events ≡ true
-    → Leads (plain stage.Events (record job { events = before })) (map event_entry events) (plain stage.Events (record job { events = before ++ events }))
+    → Leads (plain due_part.Events (record job { events = before })) (map event_entry events) (plain due_part.Events (record job { events = before ++ events }))
 events_lead job before [] all = rw (append-nil before) refl
 events_lead job before (e ∷ events) all =
     let parts = and_parts (event_fits e.kind) (list_all (λ (e : Event). event_fits e.kind) events) all in
-    let d = plain stage.Events (record job { events = before }) in
-    let next = plain stage.Events (record job { events = before ++ e ∷ [] }) in (
+    let d = plain due_part.Events (record job { events = before }) in
+    let next = plain due_part.Events (record job { events = before ++ e ∷ [] }) in (
       next,
       event_step d e.spot e.kind refl parts.0,
-      subst (λ (l : List Event). Leads next (map event_entry events) (plain stage.Events (record job { events = l }))) (append_assoc before (e ∷ []) events) (events_lead job (before ++ e ∷ []) events parts.1),
+      subst (λ (l : List Event). Leads next (map event_entry events) (plain due_part.Events (record job { events = l }))) (append_assoc before (e ∷ []) events) (events_lead job (before ++ e ∷ []) events parts.1),
     )
 
 -- the lines of a job lead from the empty draft to the job
-pub job_leads : (job : Job) → IsWritable job → Leads empty_draft (job_entries job) (plain stage.Stopped job)
+pub job_leads : (job : Job) → IsWritable job → Leads empty_draft (job_entries job) (plain due_part.Stopped job)
 job_leads job w =
     let j1 = record empty_job { ranks = job.ranks; ranks_spot = job.ranks_spot } in
     let j2 = record j1 { spares = job.spares; spares_spot = job.spares_spot } in
@@ -488,39 +488,39 @@ job_leads job w =
     let j5 = record j4 { callbacks = job.callbacks } in
     let j6 = record j5 { begin_spot = job.begin_spot } in
     let j7 = record j6 { body = job.body } in
-    let s = stage_behind stage.Names job.callbacks in
-    let takes = still_takes stage.Names job.callbacks at_names in
-    let d1 = plain stage.Ranks empty_job in
-    let d2 = plain stage.Spares j1 in
-    let d3 = plain stage.Separation j2 in
-    let d4 = plain stage.Names j3 in
-    let d5 = plain stage.Names j4 in
+    let s = due_part_behind due_part.Names job.callbacks in
+    let takes = still_takes due_part.Names job.callbacks at_names in
+    let d1 = plain due_part.Ranks empty_job in
+    let d2 = plain due_part.Spares j1 in
+    let d3 = plain due_part.Separation j2 in
+    let d4 = plain due_part.Names j3 in
+    let d5 = plain due_part.Names j4 in
     let d6 = plain s j5 in
-    let d7 = plain stage.Body j6 in
-    let d8 = dr stage.Body j6 no_callback [] job.body in
-    let d9 = plain stage.Schedule j7 in
-    let d10 = plain stage.Events j7 in
-    let d11 = plain stage.Events job in
-    let last = plain stage.Stopped job in
+    let d7 = plain due_part.Body j6 in
+    let d8 = dr due_part.Body j6 no_callback [] job.body in
+    let d9 = plain due_part.Schedule j7 in
+    let d10 = plain due_part.Events j7 in
+    let d11 = plain due_part.Events job in
+    let last = plain due_part.Stopped job in
     let head_leads : Leads empty_draft (heading job) d4 = (
       d1,
       (λ m line. part_read empty_draft m part.Fenix refl refl line.words),
       (
         d2,
-        (λ m line. part_read d1 m (part.Ranks job.ranks) refl w.ranks line.words ∙ ap (λ (at : Spot). took (plain stage.Spares (record empty_job { ranks = job.ranks; ranks_spot = at }))) (sym line.spot)),
+        (λ m line. part_read d1 m (part.Ranks job.ranks) refl w.ranks line.words ∙ ap (λ (at : Spot). took (plain due_part.Spares (record empty_job { ranks = job.ranks; ranks_spot = at }))) (sym line.spot)),
         (
           d3,
-          (λ m line. part_read d2 m (part.Spares job.spares) refl w.spares line.words ∙ ap (λ (at : Spot). took (plain stage.Separation (record j1 { spares = job.spares; spares_spot = at }))) (sym line.spot)),
+          (λ m line. part_read d2 m (part.Spares job.spares) refl w.spares line.words ∙ ap (λ (at : Spot). took (plain due_part.Separation (record j1 { spares = job.spares; spares_spot = at }))) (sym line.spot)),
           (
             d4,
-            (λ m line. part_read d3 m (part.Separation job.separation) refl w.separation line.words ∙ ap (λ (at : Spot). took (plain stage.Names (record j2 { separation = job.separation; separation_spot = at }))) (sym line.spot)),
+            (λ m line. part_read d3 m (part.Separation job.separation) refl w.separation line.words ∙ ap (λ (at : Spot). took (plain due_part.Names (record j2 { separation = job.separation; separation_spot = at }))) (sym line.spot)),
             refl,
           ),
         ),
       ),
     ) in
     let begin_leads : Leads d6 (kept_at job.begin_spot (codes "begin" ∷ []) ∷ []) d7 =
-    (d7, (λ m line. part_read d6 m part.Begin takes.begin refl line.words ∙ ap (λ (at : Spot). took (plain stage.Body (record j5 { begin_spot = at }))) (sym line.spot)), refl) in
+    (d7, (λ m line. part_read d6 m part.Begin takes.begin refl line.words ∙ ap (λ (at : Spot). took (plain due_part.Body (record j5 { begin_spot = at }))) (sym line.spot)), refl) in
     let end_leads : Leads d8 (anywhere (codes "end") ∷ anywhere (codes "schedule") ∷ []) d10 =
     (d9, (λ m line. part_read d8 m part.End refl refl line.words), (d10, (λ m line. part_read d9 m part.Schedule refl refl line.words), refl)) in
     let stop_leads : Leads d11 (anywhere (codes "stop") ∷ []) last = (last, (λ m line. part_read d11 m part.Stop refl refl line.words), refl) in
@@ -532,9 +532,9 @@ job_leads job w =
     let e6 = e5 ++ anywhere (codes "end") ∷ anywhere (codes "schedule") ∷ [] in
     let e7 = e6 ++ map event_entry job.events in
     let l2 = leads_on empty_draft e1 d4 (map decl_entry job.names) d5 head_leads (names_lead j3 [] job.names w.names) in
-    let l3 = leads_on empty_draft e2 d5 (chained (map callback_entries job.callbacks)) d6 l2 (callbacks_lead stage.Names at_names j4 [] job.callbacks w.callbacks) in
+    let l3 = leads_on empty_draft e2 d5 (chained (map callback_entries job.callbacks)) d6 l2 (callbacks_lead due_part.Names at_names j4 [] job.callbacks w.callbacks) in
     let l4 = leads_on empty_draft e3 d6 (kept_at job.begin_spot (codes "begin" ∷ []) ∷ []) d7 l3 begin_leads in
-    let l5 = leads_on empty_draft e4 d7 (stmts_entries job.body) d8 l4 (stmts_again job.body 64 stage.Body j6 no_callback [] [] w.body refl refl) in
+    let l5 = leads_on empty_draft e4 d7 (stmts_entries job.body) d8 l4 (stmts_again job.body 64 due_part.Body j6 no_callback [] [] w.body refl refl) in
     let l6 = leads_on empty_draft e5 d8 (anywhere (codes "end") ∷ anywhere (codes "schedule") ∷ []) d10 l5 end_leads in
     let l7 = leads_on empty_draft e6 d10 (map event_entry job.events) d11 l6 (events_lead j7 [] job.events w.events) in
     leads_on empty_draft e7 d11 (anywhere (codes "stop") ∷ []) last l7 stop_leads
@@ -553,7 +553,7 @@ again_by (Some m) l ls number d (e ∷ es) last fine rest is all leads =
     rw (fine, is, step) (rest leads.0 es all.1 leads.2)
 
 -- sound lines that are these lead to the same draft
-pub run_again : (lines : List Line) (number : ℕ) (d : Draft) (es : List Entry) (last : Draft) → last.stage ≡ stage.Stopped → AllByRecursion IsSound lines
+pub run_again : (lines : List Line) (number : ℕ) (d : Draft) (es : List Entry) (last : Draft) → last.due_part ≡ due_part.Stopped → AllByRecursion IsSound lines
     → AreLines (met_from number lines) es → Leads d es last → run d number lines ≡ Ok last
 run_again [] number d [] last stopped fine all leads = rw (leads, stopped) refl
 run_again [] number d (e ∷ es) last stopped fine all leads = absurd all

@@ -11,7 +11,7 @@ use Rattle.fx_script.specs.declared.job.Job.{Job}
 use Rattle.fx_script.specs.Comments.{is_comment}
 use Rattle.fx_script.specs.SaidLines.{Met, met_of, met_in, spot_of, if_met, met_from, IsSound}
 use Rattle.fx_script.specs.Spelling.{Entry, job_entries, bytes_of, IsLine, AreLines, IsWritable, Spells}
-use Rattle.fx_script.specs.Canonical.{line_of, text_of, canonical}
+use Rattle.fx_script.specs.Canonical.{line_of_words, text_of, canonical}
 use Rattle.fx_text.specs.Written.{spaced}
 use Rattle.fx_script.proofs.Placed.{spot_at, placed, placed_from}
 
@@ -35,7 +35,7 @@ is_said (w ∷ ws) = not (eqb (slice_index w 0) 35)
 pub record IsGoodLine (ws : List (List ℕ)) : Type 0 where
   pub words : list_all is_word ws ≡ true
   pub said : is_said ws ≡ true
-  pub short : length (line_of ws) ≤ 1024
+  pub short : length (line_of_words ws) ≤ 1024
 
 -- lines that say something, each of which can be written
 abbrev pub AreGoodLines : List Entry → Type 0
@@ -73,13 +73,13 @@ words_good c (b ∷ bs) p =
 
 -- how long the line of these words is
 abbrev words_length : List Word → ℕ
-words_length ws = length (line_of (map bytes_of ws))
+words_length ws = length (line_of_words (map bytes_of ws))
 
 longer_length : (c b : ℕ) (ws : List Word) → words_length (longer c b ws) ≡ 1 + words_length ws
 longer_length c b [] = refl
 longer_length c b (w ∷ ws) = omega arith
 
-spaced_length : (ws : List (List ℕ)) → length (spaced ws) ≤ 1 + length (line_of ws)
+spaced_length : (ws : List (List ℕ)) → length (spaced ws) ≤ 1 + length (line_of_words ws)
 spaced_length [] = omega arith
 spaced_length (w ∷ ws) = omega arith
 
@@ -154,7 +154,7 @@ spaced_printable (w ∷ ws) e =
     let parts = and_parts (is_word w) (list_all is_word ws) e in
     both_printable w (spaced ws) (word_printable w (word_bytes w parts.0)) (spaced_printable ws parts.1)
 
-line_printable : (ws : List (List ℕ)) → list_all is_word ws ≡ true → list_all is_printable (line_of ws) ≡ true
+line_printable : (ws : List (List ℕ)) → list_all is_word ws ≡ true → list_all is_printable (line_of_words ws) ≡ true
 line_printable [] e = refl
 line_printable (w ∷ ws) e =
     let parts = and_parts (is_word w) (list_all is_word ws) e in
@@ -207,13 +207,13 @@ line_ended (b ∷ bs) rest e =
 
 -- the line of an entry, as a line of a text
 abbrev pub written : Entry → Line
-written e = record { bytes = line_of e.words; ended = true }
+written e = record { bytes = line_of_words e.words; ended = true }
 
 -- the lines of a text of entries are the entries' lines
 pub text_lines : (es : List Entry) → AreGoodLines es → lines_of (text_of es) ≡ map written es
 text_lines [] good = refl
 text_lines (e ∷ es) good =
-    line_ended (line_of e.words) (text_of es) (line_printable e.words good.0.words) ∙ ap (λ (ls : List Line). written e ∷ ls) (text_lines es good.1)
+    line_ended (line_of_words e.words) (text_of es) (line_printable e.words good.0.words) ∙ ap (λ (ls : List Line). written e ∷ ls) (text_lines es good.1)
 
 -- ---- what these lines say
 
@@ -224,9 +224,9 @@ written_sound (e ∷ es) good = (record { printable = line_printable e.words goo
 
 -- what is met in a line of words
 abbrev met_first : ℕ → List ℕ → List (List ℕ) → Met
-met_first n w ws = record { number = n; first = record { column = 1; bytes = w }; left = record { words = words_from (1 + length w) (spaced ws); past = length (line_of (w ∷ ws)) + 1 } }
+met_first n w ws = record { number = n; first = record { column = 1; bytes = w }; left = record { words = words_from (1 + length w) (spaced ws); past = length (line_of_words (w ∷ ws)) + 1 } }
 
-met_written : (n : ℕ) (w : List ℕ) (ws : List (List ℕ)) → IsGoodLine (w ∷ ws) → met_in n (line_of (w ∷ ws)) ≡ Some (met_first n w ws)
+met_written : (n : ℕ) (w : List ℕ) (ws : List (List ℕ)) → IsGoodLine (w ∷ ws) → met_in n (line_of_words (w ∷ ws)) ≡ Some (met_first n w ws)
 met_written n w ws good =
     let parts = and_parts (is_word w) (list_all is_word ws) good.words in
     rw (word_in_front 1 w (spaced ws) parts.0 (none_begins ws), not-true (eqb (slice_index w 0) 35) good.said) refl
@@ -242,7 +242,7 @@ placed_line n o w ws good =
     record { spot = spot_is n w ws o; words = rw (words_spaced (1 + length w) ws parts.1) refl }
 
 met_placed : (n : ℕ) (o : Option Spot) (words : List (List ℕ)) (ms : List Met) (es : List Entry) → IsGoodLine words → AreLines ms es
-    → AreLines (if_met (met_in n (line_of words)) ms) (placed n record { spot = o; words = words } ∷ es)
+    → AreLines (if_met (met_in n (line_of_words words)) ms) (placed n record { spot = o; words = words } ∷ es)
 met_placed n o [] ms es good lines = absurd (let no = good.said in cc)
 met_placed n o (w ∷ ws) ms es good lines = rw (met_written n w ws good) (placed_line n o w ws good, lines)
 

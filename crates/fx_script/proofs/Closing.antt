@@ -10,14 +10,14 @@ use Rattle.fx_text.specs.Lines.{Line, lines_of}
 use Rattle.fx_script.specs.declared.draft.Block.{Block}
 use Rattle.fx_script.specs.declared.draft.Block.TheVariants as block
 use Rattle.fx_script.specs.declared.draft.Draft.{Draft}
-use Rattle.fx_script.specs.declared.draft.Stage.{Stage}
-use Rattle.fx_script.specs.declared.draft.Stage.TheVariants as stage
+use Rattle.fx_script.specs.declared.draft.DuePart.{DuePart}
+use Rattle.fx_script.specs.declared.draft.DuePart.TheVariants as due_part
 use Rattle.fx_script.specs.declared.job.Callback.{Callback}
 use Rattle.fx_script.specs.declared.job.Job.{Job}
 use Rattle.fx_script.specs.declared.job.Stmt.{Stmt}
 use Rattle.fx_script.specs.declared.refusal.Wrong.{Wrong}
 use Rattle.fx_script.specs.Outcome.{◌>>=◌}
-use Rattle.fx_script.specs.Canonical.{line_of, text_of}
+use Rattle.fx_script.specs.Canonical.{line_of_words, text_of}
 use Rattle.fx_script.specs.Moves.{empty_draft, no_callback, closed_block}
 use Rattle.fx_script.specs.Reading.{Refusal, sound, taken, line_taken, run, reading, job_in}
 use Rattle.fx_script.specs.Refused.{behind_ends, GoesOnBehind}
@@ -69,19 +69,19 @@ from_spares bs = said_line (codes "spares" ∷ codes "0" ∷ []) ∷ from_separa
 abbrev from_ranks : List Block → List Entry
 from_ranks bs = said_line (codes "ranks" ∷ codes "1" ∷ []) ∷ from_spares bs
 
--- the lines that are due at each stage
-abbrev pub closing : Stage → List Block → List Entry
-closing stage.Fenix bs = said_line (codes "fenix" ∷ codes "1" ∷ []) ∷ from_ranks bs
-closing stage.Ranks bs = from_ranks bs
-closing stage.Spares bs = from_spares bs
-closing stage.Separation bs = from_separation bs
-closing stage.Names bs = from_names bs
-closing stage.Callbacks bs = from_names bs
-closing stage.Callback bs = ends_of bs (one_word (codes "endcallback") ∷ from_names [])
-closing stage.Body bs = from_body bs
-closing stage.Schedule bs = from_schedule
-closing stage.Events bs = from_events
-closing stage.Stopped bs = []
+-- the lines that are due at each part
+abbrev pub closing : DuePart → List Block → List Entry
+closing due_part.Fenix bs = said_line (codes "fenix" ∷ codes "1" ∷ []) ∷ from_ranks bs
+closing due_part.Ranks bs = from_ranks bs
+closing due_part.Spares bs = from_spares bs
+closing due_part.Separation bs = from_separation bs
+closing due_part.Names bs = from_names bs
+closing due_part.Callbacks bs = from_names bs
+closing due_part.Callback bs = ends_of bs (one_word (codes "endcallback") ∷ from_names [])
+closing due_part.Body bs = from_body bs
+closing due_part.Schedule bs = from_schedule
+closing due_part.Events bs = from_events
+closing due_part.Stopped bs = []
 
 -- ---- what these lines lead to
 
@@ -93,14 +93,14 @@ passed d number (l ∷ ls) = taken d (met_in number l.bytes) >>= λ next. passed
 pub record Closes (d : Draft) (number : ℕ) (es : List Entry) : Type 0 where
   pub last : Draft
   pub goes : passed d number (map written es) ≡ Ok last
-  pub stopped : last.stage ≡ stage.Stopped
+  pub stopped : last.due_part ≡ due_part.Stopped
 
 -- the statements behind the innermost block's last line
 abbrev behind_block : Block → List Stmt → List Stmt
 behind_block b now = (closed_block b now).0 ++ (closed_block b now).1 ∷ []
 
-close_body : (bs : List Block) (job : Job) (c : Callback) (now : List Stmt) (number : ℕ) → Closes (dr stage.Body job c bs now) number (from_body bs)
-close_body [] job c now number = record { last = dr stage.Stopped (record job { body = now }) c [] []; goes = refl; stopped = refl }
+close_body : (bs : List Block) (job : Job) (c : Callback) (now : List Stmt) (number : ℕ) → Closes (dr due_part.Body job c bs now) number (from_body bs)
+close_body [] job c now number = record { last = dr due_part.Stopped (record job { body = now }) c [] []; goes = refl; stopped = refl }
 close_body (block.RoleOnly spot role before ∷ bs) job c now number =
     let r = close_body bs job c (behind_block (block.RoleOnly spot role before) now) (number + 1) in
     record { last = r.last; goes = r.goes; stopped = r.stopped }
@@ -120,7 +120,7 @@ spot_in number = record { line = number; column = 1 }
 abbrev begun_at : ℕ → Job → Job
 begun_at number job = record job { begin_spot = spot_in number }
 
-close_callback : (bs : List Block) (job : Job) (c : Callback) (now : List Stmt) (number : ℕ) → Closes (dr stage.Callback job c bs now) number (closing stage.Callback bs)
+close_callback : (bs : List Block) (job : Job) (c : Callback) (now : List Stmt) (number : ℕ) → Closes (dr due_part.Callback job c bs now) number (closing due_part.Callback bs)
 close_callback [] job c now number =
     let ended = record job { callbacks = job.callbacks ++ record c { body = now } ∷ [] } in
     let r = close_body [] (begun_at (number + 1) ended) no_callback [] (number + 1 + 1) in
@@ -138,46 +138,46 @@ close_callback (block.Loop spot counter first last before ∷ bs) job c now numb
     let r = close_callback bs job c (behind_block (block.Loop spot counter first last before) now) (number + 1) in
     record { last = r.last; goes = r.goes; stopped = r.stopped }
 
-close_names : (bs : List Block) (job : Job) (c : Callback) (now : List Stmt) (number : ℕ) → Closes (dr stage.Names job c bs now) number (from_names bs)
+close_names : (bs : List Block) (job : Job) (c : Callback) (now : List Stmt) (number : ℕ) → Closes (dr due_part.Names job c bs now) number (from_names bs)
 close_names bs job c now number = let r = close_body bs (begun_at number job) c now (number + 1) in record { last = r.last; goes = r.goes; stopped = r.stopped }
 
-close_callbacks : (bs : List Block) (job : Job) (c : Callback) (now : List Stmt) (number : ℕ) → Closes (dr stage.Callbacks job c bs now) number (from_names bs)
+close_callbacks : (bs : List Block) (job : Job) (c : Callback) (now : List Stmt) (number : ℕ) → Closes (dr due_part.Callbacks job c bs now) number (from_names bs)
 close_callbacks bs job c now number = let r = close_body bs (begun_at number job) c now (number + 1) in record { last = r.last; goes = r.goes; stopped = r.stopped }
 
-close_separation : (bs : List Block) (job : Job) (c : Callback) (now : List Stmt) (number : ℕ) → Closes (dr stage.Separation job c bs now) number (from_separation bs)
+close_separation : (bs : List Block) (job : Job) (c : Callback) (now : List Stmt) (number : ℕ) → Closes (dr due_part.Separation job c bs now) number (from_separation bs)
 close_separation bs job c now number =
     let r = close_names bs (record job { separation = pos 1; separation_spot = spot_in number }) c now (number + 1) in
     record { last = r.last; goes = r.goes; stopped = r.stopped }
 
-close_spares : (bs : List Block) (job : Job) (c : Callback) (now : List Stmt) (number : ℕ) → Closes (dr stage.Spares job c bs now) number (from_spares bs)
+close_spares : (bs : List Block) (job : Job) (c : Callback) (now : List Stmt) (number : ℕ) → Closes (dr due_part.Spares job c bs now) number (from_spares bs)
 close_spares bs job c now number =
     let r = close_separation bs (record job { spares = pos 0; spares_spot = spot_in number }) c now (number + 1) in
     record { last = r.last; goes = r.goes; stopped = r.stopped }
 
-close_ranks : (bs : List Block) (job : Job) (c : Callback) (now : List Stmt) (number : ℕ) → Closes (dr stage.Ranks job c bs now) number (from_ranks bs)
+close_ranks : (bs : List Block) (job : Job) (c : Callback) (now : List Stmt) (number : ℕ) → Closes (dr due_part.Ranks job c bs now) number (from_ranks bs)
 close_ranks bs job c now number =
     let r = close_spares bs (record job { ranks = pos 1; ranks_spot = spot_in number }) c now (number + 1) in
     record { last = r.last; goes = r.goes; stopped = r.stopped }
 
-closes_at : (s : Stage) (job : Job) (c : Callback) (bs : List Block) (now : List Stmt) (number : ℕ) → Closes (dr s job c bs now) number (closing s bs)
-closes_at stage.Fenix job c bs now number = let r = close_ranks bs job c now (number + 1) in record { last = r.last; goes = r.goes; stopped = r.stopped }
-closes_at stage.Ranks job c bs now number = close_ranks bs job c now number
-closes_at stage.Spares job c bs now number = close_spares bs job c now number
-closes_at stage.Separation job c bs now number = close_separation bs job c now number
-closes_at stage.Names job c bs now number = close_names bs job c now number
-closes_at stage.Callbacks job c bs now number = close_callbacks bs job c now number
-closes_at stage.Callback job c bs now number = close_callback bs job c now number
-closes_at stage.Body job c bs now number = close_body bs job c now number
-closes_at stage.Schedule job c bs now number = record { last = dr stage.Stopped job c bs now; goes = refl; stopped = refl }
-closes_at stage.Events job c bs now number = record { last = dr stage.Stopped job c bs now; goes = refl; stopped = refl }
-closes_at stage.Stopped job c bs now number = record { last = dr stage.Stopped job c bs now; goes = refl; stopped = refl }
+closes_at : (s : DuePart) (job : Job) (c : Callback) (bs : List Block) (now : List Stmt) (number : ℕ) → Closes (dr s job c bs now) number (closing s bs)
+closes_at due_part.Fenix job c bs now number = let r = close_ranks bs job c now (number + 1) in record { last = r.last; goes = r.goes; stopped = r.stopped }
+closes_at due_part.Ranks job c bs now number = close_ranks bs job c now number
+closes_at due_part.Spares job c bs now number = close_spares bs job c now number
+closes_at due_part.Separation job c bs now number = close_separation bs job c now number
+closes_at due_part.Names job c bs now number = close_names bs job c now number
+closes_at due_part.Callbacks job c bs now number = close_callbacks bs job c now number
+closes_at due_part.Callback job c bs now number = close_callback bs job c now number
+closes_at due_part.Body job c bs now number = close_body bs job c now number
+closes_at due_part.Schedule job c bs now number = record { last = dr due_part.Stopped job c bs now; goes = refl; stopped = refl }
+closes_at due_part.Events job c bs now number = record { last = dr due_part.Stopped job c bs now; goes = refl; stopped = refl }
+closes_at due_part.Stopped job c bs now number = record { last = dr due_part.Stopped job c bs now; goes = refl; stopped = refl }
 
-pub closes : (d : Draft) (number : ℕ) → Closes d number (closing d.stage d.blocks)
-closes d number = closes_at d.stage d.job d.callback d.blocks d.now number
+pub closes : (d : Draft) (number : ℕ) → Closes d number (closing d.due_part d.blocks)
+closes d number = closes_at d.due_part d.job d.callback d.blocks d.now number
 
 -- these lines are good ones
-good_line : (words : List (List ℕ)) → list_all is_word words ≡ true → is_said words ≡ true → leb (length (line_of words)) 1024 ≡ true → IsGoodLine words
-good_line words fine said short = record { words = fine; said = said; short = leb-true (length (line_of words)) 1024 short }
+good_line : (words : List (List ℕ)) → list_all is_word words ≡ true → is_said words ≡ true → leb (length (line_of_words words)) 1024 ≡ true → IsGoodLine words
+good_line words fine said short = record { words = fine; said = said; short = leb-true (length (line_of_words words)) 1024 short }
 
 good_events : AreGoodLines from_events
 good_events = (good_line (codes "stop" ∷ []) refl refl refl, tt)
@@ -207,18 +207,18 @@ good_spares bs = (good_line (codes "spares" ∷ codes "0" ∷ []) refl refl refl
 good_ranks : (bs : List Block) → AreGoodLines (from_ranks bs)
 good_ranks bs = (good_line (codes "ranks" ∷ codes "1" ∷ []) refl refl refl, good_spares bs)
 
-pub good_closing : (s : Stage) (bs : List Block) → AreGoodLines (closing s bs)
-good_closing stage.Fenix bs = (good_line (codes "fenix" ∷ codes "1" ∷ []) refl refl refl, good_ranks bs)
-good_closing stage.Ranks bs = good_ranks bs
-good_closing stage.Spares bs = good_spares bs
-good_closing stage.Separation bs = good_separation bs
-good_closing stage.Names bs = good_names bs
-good_closing stage.Callbacks bs = good_names bs
-good_closing stage.Callback bs = good_ends bs (one_word (codes "endcallback") ∷ from_names []) (good_line (codes "endcallback" ∷ []) refl refl refl, good_names [])
-good_closing stage.Body bs = good_body bs
-good_closing stage.Schedule bs = good_schedule
-good_closing stage.Events bs = good_events
-good_closing stage.Stopped bs = tt
+pub good_closing : (s : DuePart) (bs : List Block) → AreGoodLines (closing s bs)
+good_closing due_part.Fenix bs = (good_line (codes "fenix" ∷ codes "1" ∷ []) refl refl refl, good_ranks bs)
+good_closing due_part.Ranks bs = good_ranks bs
+good_closing due_part.Spares bs = good_spares bs
+good_closing due_part.Separation bs = good_separation bs
+good_closing due_part.Names bs = good_names bs
+good_closing due_part.Callbacks bs = good_names bs
+good_closing due_part.Callback bs = good_ends bs (one_word (codes "endcallback") ∷ from_names []) (good_line (codes "endcallback" ∷ []) refl refl refl, good_names [])
+good_closing due_part.Body bs = good_body bs
+good_closing due_part.Schedule bs = good_schedule
+good_closing due_part.Events bs = good_events
+good_closing due_part.Stopped bs = tt
 
 -- ---- what is passed is spelled
 
@@ -236,14 +236,14 @@ pub record Passes (text : List ℕ) : Type 0 where
   pub writable : IsWritable job
   pub lines : AreLines (met_from 1 (lines_of text)) (job_entries job)
 
-pub passes : (text : List ℕ) (last : Draft) → passed empty_draft 1 (lines_of text) ≡ Ok last → last.stage ≡ stage.Stopped → Passes text
+pub passes : (text : List ℕ) (last : Draft) → passed empty_draft 1 (lines_of text) ≡ Ok last → last.due_part ≡ due_part.Stopped → Passes text
 passes text last e stopped =
     let shown = passed_shows (lines_of text) empty_draft last 1 [] e nothing_read in
     let j = shown.fine.job in
     record {
       job = last.job;
       writable = record { ranks = j.ranks; spares = j.spares; separation = j.separation; names = j.names; callbacks = j.callbacks; body = j.body; events = j.events };
-      lines = subst (λ (es : List Entry). AreLines (met_from 1 (lines_of text)) es) (whole last.stage last stopped) shown.lines;
+      lines = subst (λ (es : List Entry). AreLines (met_from 1 (lines_of text)) es) (whole last.due_part last stopped) shown.lines;
     }
 
 -- ---- the lines in front of a refused one go on
@@ -253,7 +253,7 @@ pub record Continues (P : Line → Type 0) (d : Draft) (number : ℕ) (text : Li
   pub other : List ℕ
   pub last : Draft
   pub goes : passed d number (lines_of other) ≡ Ok last
-  pub stopped : last.stage ≡ stage.Stopped
+  pub stopped : last.due_part ≡ due_part.Stopped
   pub all : AllByRecursion P (lines_of other)
   pub same : take n other ≡ take n text
 
@@ -261,21 +261,21 @@ all_such : (P : Line → Type 0) → ((l : Line) → IsSound l → P l) → (ls 
 all_such P each [] all = tt
 all_such P each (l ∷ ls) all = (each l all.0, all_such P each ls all.1)
 
-pub closing_such : (P : Line → Type 0) → ((l : Line) → IsSound l → P l) → (s : Stage) (bs : List Block) → AllByRecursion P (lines_of (text_of (closing s bs)))
+pub closing_such : (P : Line → Type 0) → ((l : Line) → IsSound l → P l) → (s : DuePart) (bs : List Block) → AllByRecursion P (lines_of (text_of (closing s bs)))
 closing_such P each s bs =
     let es = closing s bs in
     subst (λ (ls : List Line). AllByRecursion P ls) (sym (text_lines es (good_closing s bs))) (all_such P each (map written es) (written_sound es (good_closing s bs)))
 
-pub closing_goes : (d : Draft) (number : ℕ) → passed d number (lines_of (text_of (closing d.stage d.blocks))) ≡ Ok (closes d number).last
-closing_goes d number = ap (passed d number) (text_lines (closing d.stage d.blocks) (good_closing d.stage d.blocks)) ∙ (closes d number).goes
+pub closing_goes : (d : Draft) (number : ℕ) → passed d number (lines_of (text_of (closing d.due_part d.blocks))) ≡ Ok (closes d number).last
+closing_goes d number = ap (passed d number) (text_lines (closing d.due_part d.blocks) (good_closing d.due_part d.blocks)) ∙ (closes d number).goes
 
 pub continues_here : (P : Line → Type 0) → ((l : Line) → IsSound l → P l) → (d : Draft) (number : ℕ) (text : List ℕ) → Continues P d number text 0
 continues_here P each d number text = record {
-  other = text_of (closing d.stage d.blocks);
+  other = text_of (closing d.due_part d.blocks);
   last = (closes d number).last;
   goes = closing_goes d number;
   stopped = (closes d number).stopped;
-  all = closing_such P each d.stage d.blocks;
+  all = closing_such P each d.due_part d.blocks;
   same = refl;
 }
 

@@ -60,10 +60,10 @@ goes_on_with : (d : Draft) (number : ℕ) (lead behind text : List ℕ) (read : 
 goes_on_with d number lead behind text read on words printable is =
     let line = lead ++ spaced on.more in
     let next = on.next in
-    let rest = text_of (closing next.stage next.blocks) in
+    let rest = text_of (closing next.due_part next.blocks) in
     let fine : list_all is_printable line ≡ true = both_printable lead (spaced on.more) printable (spaced_printable on.more on.good) in
     let lines : lines_of ((line ++ 10 ∷ []) ++ rest) ≡ record { bytes = line; ended = true } ∷ lines_of rest = line_ended line rest fine in
-    let all : AllByRecursion IsEndedLine (record { bytes = line; ended = true } ∷ lines_of rest) = (record { printable = fine; ended = refl }, closing_such IsEndedLine ended_line next.stage next.blocks) in
+    let all : AllByRecursion IsEndedLine (record { bytes = line; ended = true } ∷ lines_of rest) = (record { printable = fine; ended = refl }, closing_such IsEndedLine ended_line next.due_part next.blocks) in
     let front : (line ++ 10 ∷ []) ++ rest ≡ lead ++ (spaced on.more ++ (10 ∷ [] ++ rest)) = append_assoc line (10 ∷ []) rest ∙ append_assoc lead (spaced on.more) (10 ∷ [] ++ rest) in
     record {
       other = (line ++ 10 ∷ []) ++ rest;
@@ -121,7 +121,7 @@ front_of number text r = behind_ends text (r.spot.line - number) + (r.spot.colum
 
 up_to_goes : (ls : List Line) (text : List ℕ) (d : Draft) (number : ℕ) (r : Refusal) → lines_of text ≡ ls → run d number ls ≡ Err r → SoundAt ls (r.spot.line - number) → Continues IsEndedLine d number text (front_of number text r)
 up_to_goes [] text d number r is e s =
-    let which = finished_err d number d.stage r e in
+    let which = finished_err d number d.due_part r e in
     let column : 1 ≡ r.spot.column = ap (λ (r : Refusal). r.spot.column) which in
     let none : behind_ends text (r.spot.line - number) ≡ 0 = ap (λ (x : List ℕ). behind_ends x (r.spot.line - number)) (no_lines text is) in
     continues_by IsEndedLine d number (front_of number text r) 0 text (omega (arith, none, column)) (continues_here IsEndedLine ended_line d number text)

@@ -10,8 +10,8 @@ use Rattle.fx_text.specs.Lines.{Line}
 use Rattle.fx_text.specs.Words.{Word}
 use Rattle.fx_script.specs.declared.draft.Block.{Block}
 use Rattle.fx_script.specs.declared.draft.Draft.{Draft}
-use Rattle.fx_script.specs.declared.draft.Stage.{Stage}
-use Rattle.fx_script.specs.declared.draft.Stage.TheVariants as stage
+use Rattle.fx_script.specs.declared.draft.DuePart.{DuePart}
+use Rattle.fx_script.specs.declared.draft.DuePart.TheVariants as due_part
 use Rattle.fx_script.specs.declared.head.EdgeHead.{EdgeHead}
 use Rattle.fx_script.specs.declared.head.EdgeHead.TheVariants as edge
 use Rattle.fx_script.specs.declared.head.Head.{Head}
@@ -115,7 +115,7 @@ line_words : (m : Met) (text : List ℕ) (fields : List (List ℕ)) (next : Left
 line_words m text fields next word read done =
     ap (λ (w : List ℕ). w ∷ texts m.left) word ∙ ap (λ (l : List (List ℕ)). text ∷ l) (read ∙ ap (λ (l : List (List ℕ)). fields ++ l) done ∙ append-nil fields)
 
-part_said : (d : Draft) (m : Met) (word : PartWord) (x : PartHead × Left) → m.first.bytes ≡ part_text word → part_stands d.stage d.blocks word ≡ true → IsFine d → PartRead word m.left x → texts x.1 ≡ []
+part_said : (d : Draft) (m : Met) (word : PartWord) (x : PartHead × Left) → m.first.bytes ≡ part_text word → part_stands d.due_part d.blocks word ≡ true → IsFine d → PartRead word m.left x → texts x.1 ≡ []
     → LineAdds d m (head.Part x.0)
 part_said d m word x is may fine f done = record {
   entry = part_line (spot_of m) x.0;
@@ -123,17 +123,17 @@ part_said d m word x is may fine f done = record {
   adds = part_adds d (spot_of m) x.0 (rw f.word_is may) f.fits fine;
 }
 
-edge_said : (d : Draft) (m : Met) (word : EdgeWord) (x : EdgeHead × Left) → m.first.bytes ≡ edge_text word → (is_inside d.stage && edge_stands d.blocks word) ≡ true → IsFine d → EdgeRead word m.left x
+edge_said : (d : Draft) (m : Met) (word : EdgeWord) (x : EdgeHead × Left) → m.first.bytes ≡ edge_text word → (is_inside d.due_part && edge_stands d.blocks word) ≡ true → IsFine d → EdgeRead word m.left x
     → texts x.1 ≡ [] → LineAdds d m (head.Edge x.0)
 edge_said d m word x is may fine f done =
-    let p = and_parts (is_inside d.stage) (edge_stands d.blocks word) may in
+    let p = and_parts (is_inside d.due_part) (edge_stands d.blocks word) may in
     record {
       entry = edge_line (spot_of m) x.0;
       is_line = edge_line_is m x.0 (line_words m (edge_text (edge_word_in x.0)) (edge_fields x.0) x.1 (is ∙ ap edge_text (sym f.word_is)) f.words done);
       adds = edge_adds d (spot_of m) x.0 p.0 (rw f.word_is p.1) f.fits fine;
     }
 
-simple_said : (d : Draft) (m : Met) (word : SimpleWord) (x : Stmt × Left) → m.first.bytes ≡ simple_text word → is_inside d.stage ≡ true → IsFine d → SimpleRead word (spot_of m) m.left x → texts x.1 ≡ []
+simple_said : (d : Draft) (m : Met) (word : SimpleWord) (x : Stmt × Left) → m.first.bytes ≡ simple_text word → is_inside d.due_part ≡ true → IsFine d → SimpleRead word (spot_of m) m.left x → texts x.1 ≡ []
     → LineAdds d m (head.Simple x.0)
 simple_said d m word x is may fine f done = record {
   entry = kept_at (spot_of m) (simple_text word ∷ f.fields);
@@ -141,7 +141,7 @@ simple_said d m word x is may fine f done = record {
   adds = simple_adds d x.0 (kept_at (spot_of m) (simple_text word ∷ f.fields)) may f.entries f.fits fine;
 }
 
-event_said : (d : Draft) (m : Met) (word : EventWord) (x : EventKind × Left) → m.first.bytes ≡ event_text word → is_scheduled d.stage ≡ true → IsFine d → EventRead word m.left x → texts x.1 ≡ []
+event_said : (d : Draft) (m : Met) (word : EventWord) (x : EventKind × Left) → m.first.bytes ≡ event_text word → is_scheduled d.due_part ≡ true → IsFine d → EventRead word m.left x → texts x.1 ≡ []
     → LineAdds d m (head.Event x.0)
 event_said d m word x is may fine f done = record {
   entry = kept_at (spot_of m) (event_words x.0);
@@ -149,7 +149,7 @@ event_said d m word x is may fine f done = record {
   adds = event_adds d (spot_of m) x.0 may f.fits fine;
 }
 
-head_adds : (d : Draft) (m : Met) (keyword : Keyword) (h : Head) → m.first.bytes ≡ keyword_text keyword → may_stand d.stage d.blocks keyword ≡ true → IsFine d → head_at keyword (spot_of m) m.left ≡ Ok h → LineAdds d m h
+head_adds : (d : Draft) (m : Met) (keyword : Keyword) (h : Head) → m.first.bytes ≡ keyword_text keyword → may_stand d.due_part d.blocks keyword ≡ true → IsFine d → head_at keyword (spot_of m) m.left ≡ Ok h → LineAdds d m h
 head_adds d m (k.Part word) h is may fine e =
     let r = reads_head (part_at word m.left) (λ p. head.Part p) h e in
     subst (LineAdds d m) r.is (part_said d m word r.value is may fine (part_found word m.left r.value r.read) r.end)
@@ -163,29 +163,29 @@ head_adds d m (k.Event word) h is may fine e =
     let r = reads_head (event_at word m.left) (λ x. head.Event x) h e in
     subst (LineAdds d m) r.is (event_said d m word r.value is may fine (event_found word m.left r.value r.read) r.end)
 
-placed_adds : (d : Draft) (o : Option Keyword) (m : Met) (h : Head) → IsFine d → keyword_of m.first.bytes ≡ o → head_placed d.stage d.blocks o (spot_of m) m.first m.left ≡ Ok h → LineAdds d m h
+placed_adds : (d : Draft) (o : Option Keyword) (m : Met) (h : Head) → IsFine d → keyword_of m.first.bytes ≡ o → head_placed d.due_part d.blocks o (spot_of m) m.first m.left ≡ Ok h → LineAdds d m h
 placed_adds d None m h fine is e = absurd cc
-placed_adds d (Some keyword) m h fine is e = elim (cases_Bool (may_stand d.stage d.blocks keyword)) [
+placed_adds d (Some keyword) m h fine is e = elim (cases_Bool (may_stand d.due_part d.blocks keyword)) [
   | inl t ↦ head_adds d m keyword h (keyword_found m.first.bytes keyword is) t fine (rw t at e)
   | inr f ↦ let no' : Err (misfit m.first) ≡ Ok h = rw f at e in absurd cc
 ]
 
--- at each stage but behind `stop`
-head_in_goes : (s : Stage) (bs : List Block) (spot : Spot) (first : Word) (left : Left) (h : Head) → head_in s bs spot first left ≡ Ok h → head_placed s bs (keyword_of first.bytes) spot first left ≡ Ok h
-head_in_goes stage.Stopped bs spot first left h e = absurd cc
-head_in_goes stage.Fenix bs spot first left h e = e
-head_in_goes stage.Ranks bs spot first left h e = e
-head_in_goes stage.Spares bs spot first left h e = e
-head_in_goes stage.Separation bs spot first left h e = e
-head_in_goes stage.Names bs spot first left h e = e
-head_in_goes stage.Callbacks bs spot first left h e = e
-head_in_goes stage.Callback bs spot first left h e = e
-head_in_goes stage.Body bs spot first left h e = e
-head_in_goes stage.Schedule bs spot first left h e = e
-head_in_goes stage.Events bs spot first left h e = e
+-- at each part that is due, but behind `stop`
+head_in_goes : (s : DuePart) (bs : List Block) (spot : Spot) (first : Word) (left : Left) (h : Head) → head_in s bs spot first left ≡ Ok h → head_placed s bs (keyword_of first.bytes) spot first left ≡ Ok h
+head_in_goes due_part.Stopped bs spot first left h e = absurd cc
+head_in_goes due_part.Fenix bs spot first left h e = e
+head_in_goes due_part.Ranks bs spot first left h e = e
+head_in_goes due_part.Spares bs spot first left h e = e
+head_in_goes due_part.Separation bs spot first left h e = e
+head_in_goes due_part.Names bs spot first left h e = e
+head_in_goes due_part.Callbacks bs spot first left h e = e
+head_in_goes due_part.Callback bs spot first left h e = e
+head_in_goes due_part.Body bs spot first left h e = e
+head_in_goes due_part.Schedule bs spot first left h e = e
+head_in_goes due_part.Events bs spot first left h e = e
 
-pub line_adds : (d : Draft) (m : Met) (h : Head) → IsFine d → head_in d.stage d.blocks (spot_of m) m.first m.left ≡ Ok h → LineAdds d m h
-line_adds d m h fine e = placed_adds d (keyword_of m.first.bytes) m h fine refl (head_in_goes d.stage d.blocks (spot_of m) m.first m.left h e)
+pub line_adds : (d : Draft) (m : Met) (h : Head) → IsFine d → head_in d.due_part d.blocks (spot_of m) m.first m.left ≡ Ok h → LineAdds d m h
+line_adds d m h fine e = placed_adds d (keyword_of m.first.bytes) m h fine refl (head_in_goes d.due_part d.blocks (spot_of m) m.first m.left h e)
 
 -- ---- lines, one after another
 
@@ -206,7 +206,7 @@ shows_taken seen d d' None shown e =
     let same : d ≡ d' = ok_is d d' e in
     subst (λ (x : Draft). Shows (seen ++ []) x) same (rw (append-nil seen) shown)
 shows_taken seen d d' (Some m) shown e =
-    let a = bind_ok (head_in d.stage d.blocks (spot_of m) m.first m.left) (λ h. Ok (moved d (spot_of m) h)) d' e in
+    let a = bind_ok (head_in d.due_part d.blocks (spot_of m) m.first m.left) (λ h. Ok (moved d (spot_of m) h)) d' e in
     let l = line_adds d m a.0 shown.fine a.1 in
     let same : moved d (spot_of m) a.0 ≡ d' = ok_is (moved d (spot_of m) a.0) d' a.2 in
     subst (λ (x : Draft). Shows (seen ++ m ∷ []) x) same (record {
@@ -220,7 +220,7 @@ met_append (Some m) ms seen = append_assoc seen (m ∷ []) ms
 
 -- a text that was read
 pub record IsFound (seen : List Met) (number : ℕ) (lines : List Line) (d : Draft) : Type 0 where
-  pub stopped : d.stage ≡ stage.Stopped
+  pub stopped : d.due_part ≡ due_part.Stopped
   pub sound : AllByRecursion IsSound lines
   pub shown : Shows (seen ++ met_from number lines) d
 
@@ -230,8 +230,8 @@ read_as d = Ok d
 refusal_ok : (d d' : Draft) → read_as d ≡ read_as d' → d ≡ d'
 refusal_ok d d' e = cc
 
-finished_found : (d d' : Draft) (number : ℕ) (s : Stage) → finished d number s ≡ Ok d' → (s ≡ stage.Stopped) × (d ≡ d')
-finished_found d d' number stage.Stopped e = (refl, refusal_ok d d' e)
+finished_found : (d d' : Draft) (number : ℕ) (s : DuePart) → finished d number s ≡ Ok d' → (s ≡ due_part.Stopped) × (d ≡ d')
+finished_found d d' number due_part.Stopped e = (refl, refusal_ok d d' e)
 finished_found d d' number s e = absurd cc
 
 -- the draft behind a line that was read
@@ -241,7 +241,7 @@ at_line_ok number (Err w) f d' e = absurd cc
 
 pub run_found : (lines : List Line) (d d' : Draft) (number : ℕ) (seen : List Met) → run d number lines ≡ Ok d' → Shows seen d → IsFound seen number lines d'
 run_found [] d d' number seen e shown =
-    let f = finished_found d d' number d.stage e in
+    let f = finished_found d d' number d.due_part e in
     subst (λ (x : Draft). IsFound seen number [] x) f.1 (record { stopped = f.0; sound = tt; shown = rw (append-nil seen) shown })
 run_found (l ∷ ls) d d' number seen e shown =
     let a = at_line_ok number (line_taken d number l) (λ next. run next (number + 1) ls) d' e in

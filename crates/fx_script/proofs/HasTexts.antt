@@ -11,7 +11,7 @@ use Rattle.fx_script.specs.declared.job.Stmt.TheOpen.{Stmt-F}
 use Rattle.fx_script.specs.declared.job.Stmt.TheViews.{roll-Stmt}
 use Rattle.fx_script.specs.declared.job.Stmt.TheFolds.{fold-roll-Stmt, map-Stmt, ind-Stmt}
 use Rattle.fx_text.specs.Lines.{lines_of}
-use Rattle.fx_script.specs.Canonical.{line_of, canonical, stmt_without_spots_level, stmt_without_spots, decl_without_spot, callback_without_spots, event_without_spot, without_spots, HasText, CanBeWritten}
+use Rattle.fx_script.specs.Canonical.{line_of_words, canonical, stmt_without_spots_level, stmt_without_spots, decl_without_spot, callback_without_spots, event_without_spot, without_spots, HasText, CanBeWritten}
 use Rattle.fx_script.specs.Moves.{nowhere}
 use Rattle.fx_text.specs.Names.{is_name}
 use Rattle.fx_script.specs.Spelling.{Entry, job_entries, opening_fits, stmt_fits_level, stmt_fits, stmts_fit, list_fits, decl_fits, callback_fits, event_fits, IsWritable}
@@ -114,7 +114,7 @@ whole_writable job w = record {
 
 -- lines that are short
 abbrev AreShort : List Entry → Type 0
-AreShort es = AllByRecursion (λ e. length (line_of e.words) ≤ 1024) es
+AreShort es = AllByRecursion (λ e. length (line_of_words e.words) ≤ 1024) es
 
 -- lines of the same words are as short
 short_same : (es fs : List Entry) → said es ≡ said fs → AreShort es → AreShort fs
@@ -124,7 +124,7 @@ short_same (e ∷ es) [] same short = absurd cc
 short_same (e ∷ es) (f ∷ fs) same short =
     let words : e.words ≡ f.words = cc in
     let others : said es ≡ said fs = cc in
-    (subst (λ (ws : List (List ℕ)). length (line_of ws) ≤ 1024) words short.0, short_same es fs others short.1)
+    (subst (λ (ws : List (List ℕ)). length (line_of_words ws) ≤ 1024) words short.0, short_same es fs others short.1)
 
 good_short : (es : List Entry) → AreGoodLines es → AreShort es
 good_short [] good = tt

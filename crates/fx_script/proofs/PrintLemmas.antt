@@ -8,7 +8,7 @@ use Rattle.fx_script.specs.declared.expr.Expr.TheVariants as expr
 use Rattle.fx_script.specs.declared.expr.Sign.{Sign}
 use Rattle.fx_script.specs.declared.expr.Sign.TheVariants as sign
 use Rattle.fx_script.specs.Exprs.{sign_text, expr_words, joined}
-use Rattle.fx_script.specs.Canonical.{line_of, entry_line, text_of}
+use Rattle.fx_script.specs.Canonical.{line_of_words, entry_line, text_of}
 use Rattle.fx_text.specs.Written.{spaced}
 use Rattle.fx_script.specs.Spelling.{Entry, chained}
 use Rattle.fx_script.proofs.Adds.{chained-append}
@@ -25,7 +25,7 @@ behind_words out next vs ws e =
     ap (λ (l : List ℕ). l ++ spaced ws) e ∙ append_assoc out (spaced vs) (spaced ws) ∙ ap (λ (l : List ℕ). out ++ l) (sym (spaced_append vs ws))
 
 -- a line end behind a word and words
-pub ends_line : (out first one two : List ℕ) (ws : List (List ℕ)) → one ≡ out ++ first → two ≡ one ++ spaced ws → two ++ 10 ∷ [] ≡ out ++ (line_of (first ∷ ws) ++ 10 ∷ [])
+pub ends_line : (out first one two : List ℕ) (ws : List (List ℕ)) → one ≡ out ++ first → two ≡ one ++ spaced ws → two ++ 10 ∷ [] ≡ out ++ (line_of_words (first ∷ ws) ++ 10 ∷ [])
 ends_line out first one two ws p q = rw (q, p) (simp append_assoc)
 
 -- the words of three numbers

@@ -13,8 +13,8 @@ use Rattle.fx_text.specs.Lines.{Line, lines_of}
 use Rattle.fx_text.specs.Words.{Word, begins_word, words_from, words_of}
 use Rattle.fx_script.specs.declared.draft.Block.{Block}
 use Rattle.fx_script.specs.declared.draft.Draft.{Draft}
-use Rattle.fx_script.specs.declared.draft.Stage.{Stage}
-use Rattle.fx_script.specs.declared.draft.Stage.TheVariants as stage
+use Rattle.fx_script.specs.declared.draft.DuePart.{DuePart}
+use Rattle.fx_script.specs.declared.draft.DuePart.TheVariants as due_part
 use Rattle.fx_script.specs.declared.head.Head.{Head}
 use Rattle.fx_script.specs.declared.job.Job.{Job}
 use Rattle.fx_script.specs.declared.keyword.Keyword.{Keyword}
@@ -72,7 +72,7 @@ misfit_stops r first rest past w is e =
     let s : misfit first ≡ w = err_is {A = Head} (misfit first) w (sym (is (words_left rest past)) ∙ e) in
     inl (ap (λ (v : Wrong). v.column) (sym s), λ left. is left ∙ ap (λ (v : Wrong). Err v) s)
 
-placed_stops : (s : Stage) (bs : List Block) (o : Option Keyword) (spot : Spot) (first : Word) (rest : List Word) (past : ℕ) (w : Wrong) → head_placed s bs o spot first (words_left rest past) ≡ Err w
+placed_stops : (s : DuePart) (bs : List Block) (o : Option Keyword) (spot : Spot) (first : Word) (rest : List Word) (past : ℕ) (w : Wrong) → head_placed s bs o spot first (words_left rest past) ≡ Err w
     → Stops (head_placed s bs o spot first) first rest past w
 placed_stops s bs None spot first rest past w e = misfit_stops (head_placed s bs None spot first) first rest past w (λ left. refl) e
 placed_stops s bs (Some keyword) spot first rest past w e = elim (cases_Bool (may_stand s bs keyword)) [
@@ -87,21 +87,21 @@ abbrev trailing : Word → Wrong
 trailing first = record { fault = TrailingText; column = first.column }
 
 -- behind `stop` no line may stand, and elsewhere a line that its keyword lets
-placed_by : (s : Stage) (bs : List Block) (spot : Spot) (first : Word)
+placed_by : (s : DuePart) (bs : List Block) (spot : Spot) (first : Word)
     → ((left : Left) → head_in s bs spot first left ≡ head_placed s bs (keyword_of first.bytes) spot first left) ⊎ ((left : Left) → head_in s bs spot first left ≡ Err (trailing first))
-placed_by stage.Stopped bs spot first = inr (λ left. refl)
-placed_by stage.Fenix bs spot first = inl (λ left. refl)
-placed_by stage.Ranks bs spot first = inl (λ left. refl)
-placed_by stage.Spares bs spot first = inl (λ left. refl)
-placed_by stage.Separation bs spot first = inl (λ left. refl)
-placed_by stage.Names bs spot first = inl (λ left. refl)
-placed_by stage.Callbacks bs spot first = inl (λ left. refl)
-placed_by stage.Callback bs spot first = inl (λ left. refl)
-placed_by stage.Body bs spot first = inl (λ left. refl)
-placed_by stage.Schedule bs spot first = inl (λ left. refl)
-placed_by stage.Events bs spot first = inl (λ left. refl)
+placed_by due_part.Stopped bs spot first = inr (λ left. refl)
+placed_by due_part.Fenix bs spot first = inl (λ left. refl)
+placed_by due_part.Ranks bs spot first = inl (λ left. refl)
+placed_by due_part.Spares bs spot first = inl (λ left. refl)
+placed_by due_part.Separation bs spot first = inl (λ left. refl)
+placed_by due_part.Names bs spot first = inl (λ left. refl)
+placed_by due_part.Callbacks bs spot first = inl (λ left. refl)
+placed_by due_part.Callback bs spot first = inl (λ left. refl)
+placed_by due_part.Body bs spot first = inl (λ left. refl)
+placed_by due_part.Schedule bs spot first = inl (λ left. refl)
+placed_by due_part.Events bs spot first = inl (λ left. refl)
 
-head_stops : (s : Stage) (bs : List Block) (spot : Spot) (first : Word) (rest : List Word) (past : ℕ) (w : Wrong) → head_in s bs spot first (words_left rest past) ≡ Err w → Stops (head_in s bs spot first) first rest past w
+head_stops : (s : DuePart) (bs : List Block) (spot : Spot) (first : Word) (rest : List Word) (past : ℕ) (w : Wrong) → head_in s bs spot first (words_left rest past) ≡ Err w → Stops (head_in s bs spot first) first rest past w
 head_stops s bs spot first rest past w e = elim (placed_by s bs spot first) [
   | inl is ↦ stops_same (head_placed s bs (keyword_of first.bytes) spot first) (head_in s bs spot first) first rest past w is
       (placed_stops s bs (keyword_of first.bytes) spot first rest past w (sym (is (words_left rest past)) ∙ e))
@@ -131,7 +131,7 @@ none_goes : (d : Draft) (number : ℕ) (ws : List Word) (p : ℕ) → map bytes_
 none_goes d number [] p e = refl
 none_goes d number (w ∷ ws) p e = absurd cc
 
-line_goes : (d : Draft) (number : ℕ) (first : Word) (read : List Word) → is_comment first ≡ false → LineGoesOn (head_in d.stage d.blocks (record { line = number; column = first.column }) first) read → TakenGoesOn d number (first ∷ read)
+line_goes : (d : Draft) (number : ℕ) (first : Word) (read : List Word) → is_comment first ≡ false → LineGoesOn (head_in d.due_part d.blocks (record { line = number; column = first.column }) first) read → TakenGoesOn d number (first ∷ read)
 line_goes d number first read says on = record {
   more = on.more;
   good = on.good;
@@ -140,7 +140,7 @@ line_goes d number first read says on = record {
 }
 
 met_stops : (d : Draft) (number past : ℕ) (first : Word) (rest : List Word) (w : Wrong) → is_comment first ≡ false
-    → Stops (head_in d.stage d.blocks (record { line = number; column = first.column }) first) first rest past w → TakenStops d number (first ∷ rest) w ⊎ ((w.column ≡ past) × TakenGoesOn d number (first ∷ rest))
+    → Stops (head_in d.due_part d.blocks (record { line = number; column = first.column }) first) first rest past w → TakenStops d number (first ∷ rest) w ⊎ ((w.column ≡ past) × TakenGoesOn d number (first ∷ rest))
 met_stops d number past first rest w says stops = elim stops [
   | inl a ↦ inl (record {
     read = [];
@@ -172,8 +172,8 @@ taken_stops d number past (first ∷ rest) w e = elim (cases_Bool (is_comment fi
   | inr f ↦
       let m : Met = record { number = number; first = first; left = words_left rest past } in
       let s : taken d (Some m) ≡ Err w = rw f at e in
-      elim (bind_err (head_in d.stage d.blocks (spot_of m) first (words_left rest past)) (λ h. Ok (moved d (spot_of m) h)) w s) [
-        | inl b ↦ met_stops d number past first rest w f (head_stops d.stage d.blocks (spot_of m) first rest past w b)
+      elim (bind_err (head_in d.due_part d.blocks (spot_of m) first (words_left rest past)) (λ h. Ok (moved d (spot_of m) h)) w s) [
+        | inl b ↦ met_stops d number past first rest w f (head_stops d.due_part d.blocks (spot_of m) first rest past w b)
         | inr b ↦ let free = b.2 in absurd cc
       ]
 ]
@@ -493,13 +493,13 @@ at_line_err number (Err w) f r e = inr (w, refl, refusal_is (at_number number w)
 abbrev pub missing : ℕ → Refusal
 missing number = record { fault = MissingPart; spot = record { line = number; column = 1 } }
 
-pub finished_err : (d : Draft) (number : ℕ) (s : Stage) (r : Refusal) → finished d number s ≡ Err r → missing number ≡ r
-finished_err d number stage.Stopped r e = absurd cc
+pub finished_err : (d : Draft) (number : ℕ) (s : DuePart) (r : Refusal) → finished d number s ≡ Err r → missing number ≡ r
+finished_err d number due_part.Stopped r e = absurd cc
 finished_err d number s r e = refusal_is (missing number) r e
 
 -- a refusal is in one of the lines, or behind the last
 pub run_line : (ls : List Line) (d : Draft) (number : ℕ) (r : Refusal) → run d number ls ≡ Err r → number ≤ r.spot.line
-run_line [] d number r e = subst (λ (r : Refusal). number ≤ r.spot.line) (finished_err d number d.stage r e) (omega arith)
+run_line [] d number r e = subst (λ (r : Refusal). number ≤ r.spot.line) (finished_err d number d.due_part r e) (omega arith)
 run_line (l ∷ ls) d number r e = elim (at_line_err number (line_taken d number l) (λ next. run next (number + 1) ls) r e) [
   | inl a ↦ let rest = run_line ls a.0 (number + 1) r a.2 in omega (arith, rest)
   | inr a ↦ subst (λ (r : Refusal). number ≤ r.spot.line) a.2 (omega arith)
@@ -557,7 +557,7 @@ here_refused d number l text other ls (m ∷ ms) w last is e same lines went =
 lines_refused : (ls : List Line) (text other : List ℕ) (d : Draft) (number : ℕ) (r : Refusal) (last : Draft) → lines_of text ≡ ls → run d number ls ≡ Err r
     → take (through number text r) other ≡ take (through number text r) text → run d number (lines_of other) ≡ Ok last → ⊥
 lines_refused [] text other d number r last is e same went =
-    let which : missing number ≡ r = finished_err d number d.stage r e in
+    let which : missing number ≡ r = finished_err d number d.due_part r e in
     let here : take (through number text (missing number)) other ≡ take (through number text (missing number)) text = subst (λ (r : Refusal). take (through number text r) other ≡ take (through number text r) text) (sym which) same in
     let empty : text ≡ [] = no_lines text is in
     let one : through number text (missing number) ≡ length text + 1 = rw empty refl in
@@ -597,4 +597,4 @@ draft_err (Err s) r e = e_draft s r e
 
 pub refused_too : (text other : List ℕ) (r : Refusal) (job : Job) → job_in text ≡ Err r → take (refused_through text r) other ≡ take (refused_through text r) text → Spells other job → ⊥
 refused_too text other r job e same spells =
-    lines_refused (lines_of text) text other empty_draft 1 r (plain stage.Stopped job) refl (draft_err (reading text) r e) same (spelled_run other job spells)
+    lines_refused (lines_of text) text other empty_draft 1 r (plain due_part.Stopped job) refl (draft_err (reading text) r e) same (spelled_run other job spells)

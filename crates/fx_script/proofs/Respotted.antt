@@ -15,7 +15,7 @@ use Rattle.fx_script.specs.declared.job.Stmt.TheVariants as stmt
 use Rattle.fx_script.specs.declared.job.Stmt.TheOpen.{Stmt-F}
 use Rattle.fx_script.specs.declared.job.Stmt.TheViews.{roll-Stmt}
 use Rattle.fx_script.specs.declared.job.Stmt.TheFolds.{fold-roll-Stmt, map-Stmt, ind-Stmt}
-use Rattle.fx_script.specs.Canonical.{line_of, text_of, canonical, stmt_without_spots_level, stmt_without_spots, decl_without_spot, callback_without_spots, event_without_spot, without_spots}
+use Rattle.fx_script.specs.Canonical.{line_of_words, text_of, canonical, stmt_without_spots_level, stmt_without_spots, decl_without_spot, callback_without_spots, event_without_spot, without_spots}
 use Rattle.fx_script.specs.Moves.{nowhere}
 use Rattle.fx_text.specs.Names.{is_name}
 use Rattle.fx_script.specs.Spelling.{Entry, kept_at, anywhere, opening, opening_fits, chained, stmt_level, stmt_entries, stmts_entries, decl_entry, callback_entries, event_entry, heading, job_entries, list_fits, stmt_fits_level, stmt_fits, stmts_fit, decl_fits, callback_fits, event_fits, IsWritable}
@@ -216,14 +216,14 @@ job_says job =
     said_append b7 last e7 last s7 refl
 
 -- a text of lines has their words alone
-text_said : (es : List Entry) → text_of es ≡ chained (map (λ words. line_of words ++ 10 ∷ []) (said es))
+text_said : (es : List Entry) → text_of es ≡ chained (map (λ words. line_of_words words ++ 10 ∷ []) (said es))
 text_said [] = refl
-text_said (e ∷ es) = ap (λ (l : List ℕ). (line_of e.words ++ 10 ∷ []) ++ l) (text_said es)
+text_said (e ∷ es) = ap (λ (l : List ℕ). (line_of_words e.words ++ 10 ∷ []) ++ l) (text_said es)
 
 -- the canonical text doesn't depend on spots
 canonical_of_without_spots : (job : Job) → canonical (without_spots job) ≡ canonical job
 canonical_of_without_spots job =
-    text_said (job_entries (without_spots job)) ∙ ap (λ (l : List (List (List ℕ))). chained (map (λ words. line_of words ++ 10 ∷ []) l)) (job_says job) ∙ sym (text_said (job_entries job))
+    text_said (job_entries (without_spots job)) ∙ ap (λ (l : List (List (List ℕ))). chained (map (λ words. line_of_words words ++ 10 ∷ []) l)) (job_says job) ∙ sym (text_said (job_entries job))
 
 -- jobs that differ in their spots alone have one canonical text
 pub canonical_without_spots : (a b : Job) → without_spots a ≡ without_spots b → canonical a ≡ canonical b

@@ -8,8 +8,8 @@ use Rattle.fx_text.specs.Numbers.{fits_64}
 use Rattle.fx_script.specs.declared.draft.Block.{Block}
 use Rattle.fx_script.specs.declared.draft.Block.TheVariants as block
 use Rattle.fx_script.specs.declared.draft.Draft.{Draft}
-use Rattle.fx_script.specs.declared.draft.Stage.{Stage}
-use Rattle.fx_script.specs.declared.draft.Stage.TheVariants as stage
+use Rattle.fx_script.specs.declared.draft.DuePart.{DuePart}
+use Rattle.fx_script.specs.declared.draft.DuePart.TheVariants as due_part
 use Rattle.fx_script.specs.declared.head.EdgeHead.{EdgeHead}
 use Rattle.fx_script.specs.declared.head.EdgeHead.TheVariants as edge
 use Rattle.fx_script.specs.declared.head.PartHead.{PartHead}
@@ -81,21 +81,21 @@ abbrev pub spares_line : Job → Entry
 spares_line job = kept_at job.spares_spot (codes "spares" ∷ signed_decimal job.spares ∷ [])
 
 -- the lines that were read, by what is due next
-abbrev pub lines_before : Stage → Draft → List Entry
-lines_before stage.Fenix d = []
-lines_before stage.Ranks d = fenix_line ∷ []
-lines_before stage.Spares d = fenix_line ∷ ranks_line d.job ∷ []
-lines_before stage.Separation d = fenix_line ∷ ranks_line d.job ∷ spares_line d.job ∷ []
-lines_before stage.Names d = named d.job
-lines_before stage.Callbacks d = called d.job
-lines_before stage.Callback d = called d.job ++ kept_at d.callback.spot (codes "callback" ∷ d.callback.name ∷ []) ∷ [] ++ inner d.blocks d.now
-lines_before stage.Body d = begun d.job ++ inner d.blocks d.now
-lines_before stage.Schedule d = begun d.job ++ stmts_entries d.job.body ++ anywhere (codes "end") ∷ []
-lines_before stage.Events d = begun d.job ++ stmts_entries d.job.body ++ anywhere (codes "end") ∷ anywhere (codes "schedule") ∷ [] ++ map event_entry d.job.events
-lines_before stage.Stopped d = job_entries d.job
+abbrev pub lines_before : DuePart → Draft → List Entry
+lines_before due_part.Fenix d = []
+lines_before due_part.Ranks d = fenix_line ∷ []
+lines_before due_part.Spares d = fenix_line ∷ ranks_line d.job ∷ []
+lines_before due_part.Separation d = fenix_line ∷ ranks_line d.job ∷ spares_line d.job ∷ []
+lines_before due_part.Names d = named d.job
+lines_before due_part.Callbacks d = called d.job
+lines_before due_part.Callback d = called d.job ++ kept_at d.callback.spot (codes "callback" ∷ d.callback.name ∷ []) ∷ [] ++ inner d.blocks d.now
+lines_before due_part.Body d = begun d.job ++ inner d.blocks d.now
+lines_before due_part.Schedule d = begun d.job ++ stmts_entries d.job.body ++ anywhere (codes "end") ∷ []
+lines_before due_part.Events d = begun d.job ++ stmts_entries d.job.body ++ anywhere (codes "end") ∷ anywhere (codes "schedule") ∷ [] ++ map event_entry d.job.events
+lines_before due_part.Stopped d = job_entries d.job
 
 abbrev pub so_far : Draft → List Entry
-so_far d = lines_before d.stage d
+so_far d = lines_before d.due_part d
 
 -- ---- what each draft is
 
@@ -103,14 +103,14 @@ so_far d = lines_before d.stage d
 abbrev pub NothingOpen : Draft → Type 0
 NothingOpen d = (d.job.events ≡ []) × (d.blocks ≡ []) × (d.now ≡ [])
 
-abbrev pub IsTidy : Stage → Draft → Type 0
-IsTidy stage.Names d = (d.job.callbacks ≡ []) × NothingOpen d
-IsTidy stage.Callbacks d = NothingOpen d
-IsTidy stage.Callback d = (d.job.events ≡ []) × (is_name d.callback.name ≡ true)
-IsTidy stage.Body d = d.job.events ≡ []
-IsTidy stage.Schedule d = d.job.events ≡ []
-IsTidy stage.Events d = Unit {0}
-IsTidy stage.Stopped d = Unit {0}
+abbrev pub IsTidy : DuePart → Draft → Type 0
+IsTidy due_part.Names d = (d.job.callbacks ≡ []) × NothingOpen d
+IsTidy due_part.Callbacks d = NothingOpen d
+IsTidy due_part.Callback d = (d.job.events ≡ []) × (is_name d.callback.name ≡ true)
+IsTidy due_part.Body d = d.job.events ≡ []
+IsTidy due_part.Schedule d = d.job.events ≡ []
+IsTidy due_part.Events d = Unit {0}
+IsTidy due_part.Stopped d = Unit {0}
 IsTidy s d = (d.job.names ≡ []) × ((d.job.callbacks ≡ []) × NothingOpen d)
 
 -- the numbers and names of a job fit, as far as it was read
@@ -142,6 +142,6 @@ pub record OpenFits (bs : List Block) (now : List Stmt) : Type 0 where
   pub statements : stmts_fit now room ≡ true
 
 pub record IsFine (d : Draft) : Type 0 where
-  pub tidy : IsTidy d.stage d
+  pub tidy : IsTidy d.due_part d
   pub job : JobFits d.job
   pub open_fits : OpenFits d.blocks d.now

@@ -3,8 +3,8 @@ use Rattle.std.proofs.Common.{◌≡◌, ℕ, List, [], Result, Ok, Err, refl, s
 use Rattle.std.specs.Prelude.{IfOk}
 use Rattle.fx_text.specs.Lines.{lines_of}
 use Rattle.fx_script.specs.declared.draft.Draft.{Draft}
-use Rattle.fx_script.specs.declared.draft.Stage.{Stage}
-use Rattle.fx_script.specs.declared.draft.Stage.TheVariants as stage
+use Rattle.fx_script.specs.declared.draft.DuePart.{DuePart}
+use Rattle.fx_script.specs.declared.draft.DuePart.TheVariants as due_part
 use Rattle.fx_script.specs.declared.job.Job.{Job}
 use Rattle.fx_script.specs.declared.refusal.ReadJob.{ReadJob}
 use Rattle.fx_script.specs.Answers.{Answers}
@@ -18,7 +18,7 @@ use Rattle.fx_script.proofs.Found.{Shows, run_found}
 use Rattle.fx_script.proofs.Again.{plain, job_leads, run_again}
 
 -- a whole draft's lines are its job's
-pub whole : (s : Stage) (d : Draft) → s ≡ stage.Stopped → lines_before s d ≡ job_entries d.job
+pub whole : (s : DuePart) (d : Draft) → s ≡ due_part.Stopped → lines_before s d ≡ job_entries d.job
 whole s d e = rw e refl
 
 pub nothing_read : Shows [] empty_draft
@@ -38,7 +38,7 @@ draft_found text d e =
     record {
       writable = record { ranks = j.ranks; spares = j.spares; separation = j.separation; names = j.names; callbacks = j.callbacks; body = j.body; events = j.events };
       sound = found.sound;
-      lines = subst (λ (es : List Entry). AreLines (met_from 1 (lines_of text)) es) (whole d.stage d found.stopped) found.shown.lines;
+      lines = subst (λ (es : List Entry). AreLines (met_from 1 (lines_of text)) es) (whole d.due_part d found.stopped) found.shown.lines;
     }
 
 abbrev read_as : Job → Result Job Refusal
@@ -57,8 +57,8 @@ is_spelled text (Ok job) e = job_found text (reading text) job refl e
 is_spelled text (Err e) given = tt
 
 -- the lines of what is spelled so lead to its draft
-pub spelled_run : (text : List ℕ) (job : Job) → Spells text job → reading text ≡ Ok (plain stage.Stopped job)
-spelled_run text job spells = run_again (lines_of text) 1 empty_draft (job_entries job) (plain stage.Stopped job) refl spells.sound spells.lines (job_leads job spells.writable)
+pub spelled_run : (text : List ℕ) (job : Job) → Spells text job → reading text ≡ Ok (plain due_part.Stopped job)
+spelled_run text job spells = run_again (lines_of text) 1 empty_draft (job_entries job) (plain due_part.Stopped job) refl spells.sound spells.lines (job_leads job spells.writable)
 
 -- what is spelled so is read
 pub is_read : (text : List ℕ) (job : Job) → Spells text job → job_in text ≡ Ok job

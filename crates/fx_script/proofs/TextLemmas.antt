@@ -10,7 +10,7 @@ use Rattle.fx_script.specs.declared.job.Stmt.{Stmt}
 use Rattle.fx_script.specs.declared.job.Stmt.TheVariants as stmt
 use Rattle.fx_script.specs.declared.job.Stmt.TheOpen.{Stmt-F}
 use Rattle.fx_script.specs.declared.job.Test.{Test}
-use Rattle.fx_script.specs.Canonical.{line_of, entry_line, text_of}
+use Rattle.fx_script.specs.Canonical.{line_of_words, entry_line, text_of}
 use Rattle.fx_script.specs.Exprs.{expr_words}
 use Rattle.fx_script.specs.Spelling.{Entry, kept_at, anywhere, role_text, test_text, stmt_entries, stmts_entries}
 use Rattle.fx_script.proofs.PrintLemmas.{text_append}
@@ -18,7 +18,7 @@ use Rattle.fx_script.proofs.SimpleLemmas.{stmt_spelling}
 
 -- a line with its line end
 abbrev pub ended : List (List ℕ) → List ℕ
-ended words = line_of words ++ 10 ∷ []
+ended words = line_of_words words ++ 10 ∷ []
 
 -- ---- texts
 

@@ -17,13 +17,13 @@ use Rattle.fx_text.specs.Written.{spaced}
 -- ---- the text
 
 -- a line of these words, one space between two, without its line end
-abbrev pub line_of : List (List ℕ) → List ℕ
-line_of [] = []
-line_of (w ∷ ws) = w ++ spaced ws
+abbrev pub line_of_words : List (List ℕ) → List ℕ
+line_of_words [] = []
+line_of_words (w ∷ ws) = w ++ spaced ws
 
 -- the line of an entry, with its line end
 abbrev pub entry_line : Entry → List ℕ
-entry_line e = line_of e.words ++ 10 ∷ []
+entry_line e = line_of_words e.words ++ 10 ∷ []
 
 -- the lines of entries, one after another
 abbrev pub text_of : List Entry → List ℕ
@@ -94,7 +94,7 @@ pub record HasText (job : Job) : Type 0 where
 
 -- the lines of its canonical text have at most 1,024 bytes each
 abbrev pub HasShortLines : Job → Type 0
-HasShortLines job = AllByRecursion (λ e. length (line_of e.words) ≤ 1024) (job_entries job)
+HasShortLines job = AllByRecursion (λ e. length (line_of_words e.words) ≤ 1024) (job_entries job)
 
 -- a job that can be written, in lines that aren't too long
 pub record CanBeWritten (job : Job) : Type 0 where
@@ -108,5 +108,5 @@ pub record SpellsAlone (text : List ℕ) (job : Job) : Type 0 where
   pub alone : (again : Job) → Spells text again → without_spots again ≡ without_spots job
 
 -- a line of three words
-three_words : line_of (codes "set" ∷ codes "c" ∷ codes "1" ∷ []) ≡ codes "set c 1"
+three_words : line_of_words (codes "set" ∷ codes "c" ∷ codes "1" ∷ []) ≡ codes "set c 1"
 three_words = refl

@@ -4,7 +4,7 @@ use Rattle.fx_base.specs.declared.spot.Spot.{Spot}
 use Rattle.fx_script.specs.declared.draft.Block.{Block}
 use Rattle.fx_script.specs.declared.draft.Block.TheVariants as block
 use Rattle.fx_script.specs.declared.draft.Draft.{Draft}
-use Rattle.fx_script.specs.declared.draft.Stage.TheVariants as stage
+use Rattle.fx_script.specs.declared.draft.DuePart.TheVariants as due_part
 use Rattle.fx_script.specs.declared.head.EdgeHead.{EdgeHead}
 use Rattle.fx_script.specs.declared.head.EdgeHead.TheVariants as edge
 use Rattle.fx_script.specs.declared.head.Head.{Head}
@@ -41,27 +41,27 @@ abbrev pub no_callback : Callback
 no_callback = record { spot = nowhere; name = []; body = [] }
 
 abbrev pub empty_draft : Draft
-empty_draft = record { stage = stage.Fenix; job = empty_job; callback = no_callback; blocks = []; now = [] }
+empty_draft = record { due_part = due_part.Fenix; job = empty_job; callback = no_callback; blocks = []; now = [] }
 
 -- a line between the parts of a job
 abbrev pub part_moved : Draft → Spot → PartHead → Draft
-part_moved d spot part.Fenix = record d { stage = stage.Ranks }
-part_moved d spot (part.Ranks n) = record d { stage = stage.Spares; job = record d.job { ranks = n; ranks_spot = spot } }
-part_moved d spot (part.Spares n) = record d { stage = stage.Separation; job = record d.job { spares = n; spares_spot = spot } }
-part_moved d spot (part.Separation n) = record d { stage = stage.Names; job = record d.job { separation = n; separation_spot = spot } }
+part_moved d spot part.Fenix = record d { due_part = due_part.Ranks }
+part_moved d spot (part.Ranks n) = record d { due_part = due_part.Spares; job = record d.job { ranks = n; ranks_spot = spot } }
+part_moved d spot (part.Spares n) = record d { due_part = due_part.Separation; job = record d.job { spares = n; spares_spot = spot } }
+part_moved d spot (part.Separation n) = record d { due_part = due_part.Names; job = record d.job { separation = n; separation_spot = spot } }
 part_moved d spot (part.Array name len) = record d { job = record d.job { names = d.job.names ++ decl.Array spot name len ∷ [] } }
 part_moved d spot (part.Counter name) = record d { job = record d.job { names = d.job.names ++ decl.Counter spot name ∷ [] } }
-part_moved d spot (part.Callback name) = record d { stage = stage.Callback; callback = record d.callback { spot = spot; name = name } }
+part_moved d spot (part.Callback name) = record d { due_part = due_part.Callback; callback = record d.callback { spot = spot; name = name } }
 part_moved d spot part.EndCallback = record d {
-  stage = stage.Callbacks;
+  due_part = due_part.Callbacks;
   job = record d.job { callbacks = d.job.callbacks ++ record d.callback { body = d.now } ∷ [] };
   callback = no_callback;
   now = [];
 }
-part_moved d spot part.Begin = record d { stage = stage.Body; job = record d.job { begin_spot = spot } }
-part_moved d spot part.End = record d { stage = stage.Schedule; job = record d.job { body = d.now }; now = [] }
-part_moved d spot part.Schedule = record d { stage = stage.Events }
-part_moved d spot part.Stop = record d { stage = stage.Stopped }
+part_moved d spot part.Begin = record d { due_part = due_part.Body; job = record d.job { begin_spot = spot } }
+part_moved d spot part.End = record d { due_part = due_part.Schedule; job = record d.job { body = d.now }; now = [] }
+part_moved d spot part.Schedule = record d { due_part = due_part.Events }
+part_moved d spot part.Stop = record d { due_part = due_part.Stopped }
 
 -- a block whose last list is this one, as a statement, and the statements before it
 abbrev pub closed_block : Block → List Stmt → List Stmt × Stmt

@@ -8,8 +8,8 @@ use Rattle.fx_text.specs.Lines.{Line, lines_of}
 use Rattle.fx_text.specs.Words.{Word}
 use Rattle.fx_script.specs.declared.draft.Block.{Block}
 use Rattle.fx_script.specs.declared.draft.Draft.{Draft}
-use Rattle.fx_script.specs.declared.draft.Stage.{Stage}
-use Rattle.fx_script.specs.declared.draft.Stage.TheVariants as stage
+use Rattle.fx_script.specs.declared.draft.DuePart.{DuePart}
+use Rattle.fx_script.specs.declared.draft.DuePart.TheVariants as due_part
 use Rattle.fx_script.specs.declared.head.Head.{Head}
 use Rattle.fx_script.specs.declared.job.Job.{Job}
 use Rattle.fx_script.specs.declared.keyword.Keyword.{Keyword}
@@ -41,19 +41,19 @@ abbrev pub sound : Line → Result (Unit {0}) Wrong
 sound line = soundness (checked line.bytes) line.ended (length line.bytes + 1)
 
 -- what a line says whose keyword may stand here; no other first word can
-abbrev pub head_placed : Stage → List Block → Option Keyword → Spot → Word → Left → Result Head Wrong
+abbrev pub head_placed : DuePart → List Block → Option Keyword → Spot → Word → Left → Result Head Wrong
 head_placed s blocks None spot first left = Err (misfit first)
 head_placed s blocks (Some keyword) spot first left = if may_stand s blocks keyword then head_at keyword spot left else Err (misfit first)
 
--- what a line says at this stage; nothing may follow `stop`
-abbrev pub head_in : Stage → List Block → Spot → Word → Left → Result Head Wrong
-head_in stage.Stopped blocks spot first left = Err (record { fault = TrailingText; column = first.column })
+-- what a line says at this part; nothing may follow `stop`
+abbrev pub head_in : DuePart → List Block → Spot → Word → Left → Result Head Wrong
+head_in due_part.Stopped blocks spot first left = Err (record { fault = TrailingText; column = first.column })
 head_in s blocks spot first left = head_placed s blocks (keyword_of first.bytes) spot first left
 
 -- the draft behind a line in which this is met
 abbrev pub taken : Draft → Option Met → Result Draft Wrong
 taken d None = Ok d
-taken d (Some m) = head_in d.stage d.blocks (spot_of m) m.first m.left >>= λ head. Ok (moved d (spot_of m) head)
+taken d (Some m) = head_in d.due_part d.blocks (spot_of m) m.first m.left >>= λ head. Ok (moved d (spot_of m) head)
 
 -- the draft behind a line
 abbrev pub line_taken : Draft → ℕ → Line → Result Draft Wrong
@@ -65,8 +65,8 @@ at_line number (Ok d) = Ok d
 at_line number (Err w) = Err (record { fault = w.fault; spot = record { line = number; column = w.column } })
 
 -- a draft whose `stop` was read is whole; else a part is missing in the line after the last
-abbrev pub finished : Draft → ℕ → Stage → Result Draft Refusal
-finished d number stage.Stopped = Ok d
+abbrev pub finished : Draft → ℕ → DuePart → Result Draft Refusal
+finished d number due_part.Stopped = Ok d
 finished d number s = Err (record { fault = MissingPart; spot = record { line = number; column = 1 } })
 
 -- the first reading, and then the second of its draft, unless it is refused
@@ -76,7 +76,7 @@ and_then (Err r) f = Err r
 
 -- the lines from this one on, one after another
 abbrev pub run : Draft → ℕ → List Line → Result Draft Refusal
-run d number [] = finished d number d.stage
+run d number [] = finished d number d.due_part
 run d number (line ∷ lines) = and_then (at_line number (line_taken d number line)) (λ next. run next (number + 1) lines)
 
 -- a whole text

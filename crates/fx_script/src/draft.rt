@@ -9,9 +9,9 @@ use fx_base::{Bytes, NoMemory, Role, Spot};
 use std::alloc::Global;
 use std::mem;
 
-/// Which line is due next.
+/// The part of the text whose line is due next.
 #[derive(Clone, Copy, Debug, PartialEq, Eq)]
-pub enum Stage {
+pub enum DuePart {
     Fenix,
     Ranks,
     Spares,
@@ -60,7 +60,7 @@ pub enum Block {
 /// A job as far as its lines were read.
 #[derive(Debug, Drop)]
 pub struct Draft {
-    pub stage: Stage,
+    pub due_part: DuePart,
     pub job: Job,
     /// The callback whose lines are read.
     pub callback: Callback,
@@ -81,7 +81,7 @@ impl Draft {
         ensures { result ≡ empty_draft }
     {
         Draft {
-            stage: Stage::Fenix,
+            due_part: DuePart::Fenix,
             job: Job {
                 ranks: 0,
                 spares: 0,
@@ -117,45 +117,45 @@ impl Draft {
         ensures { OnOk result (self.new ≡ part_moved self.old spot part) }
     {
         match part {
-            PartHead::Fenix => self.stage = Stage::Ranks,
+            PartHead::Fenix => self.due_part = DuePart::Ranks,
             PartHead::Ranks(number) => {
                 self.job.ranks = number;
                 self.job.ranks_spot = spot;
-                self.stage = Stage::Spares;
+                self.due_part = DuePart::Spares;
             }
             PartHead::Spares(number) => {
                 self.job.spares = number;
                 self.job.spares_spot = spot;
-                self.stage = Stage::Separation;
+                self.due_part = DuePart::Separation;
             }
             PartHead::Separation(number) => {
                 self.job.separation = number;
                 self.job.separation_spot = spot;
-                self.stage = Stage::Names;
+                self.due_part = DuePart::Names;
             }
             PartHead::Array(name, len) => self.job.names.push(Decl::Array { spot, name, len })?,
             PartHead::Counter(name) => self.job.names.push(Decl::Counter { spot, name })?,
             PartHead::Callback(name) => {
                 self.callback.spot = spot;
                 self.callback.name = name;
-                self.stage = Stage::Callback;
+                self.due_part = DuePart::Callback;
             }
             PartHead::EndCallback => {
                 let mut callback = mem::replace(&mut self.callback, no_callback(alloc));
                 callback.body = mem::replace(&mut self.now, Stmts::new(alloc));
                 self.job.callbacks.push(callback)?;
-                self.stage = Stage::Callbacks;
+                self.due_part = DuePart::Callbacks;
             }
             PartHead::Begin => {
                 self.job.begin_spot = spot;
-                self.stage = Stage::Body;
+                self.due_part = DuePart::Body;
             }
             PartHead::End => {
                 self.job.body = mem::replace(&mut self.now, Stmts::new(alloc));
-                self.stage = Stage::Schedule;
+                self.due_part = DuePart::Schedule;
             }
-            PartHead::Schedule => self.stage = Stage::Events,
-            PartHead::Stop => self.stage = Stage::Stopped,
+            PartHead::Schedule => self.due_part = DuePart::Events,
+            PartHead::Stop => self.due_part = DuePart::Stopped,
         }
         Ok(())
     }

@@ -1,7 +1,7 @@
 ghost use Rattle.std.specs.Prelude.{◌≡◌};
 ghost use Rattle.fx_script.specs.Order.{may_stand, is_inside, part_stands, edge_stands};
 
-use crate::draft::{Block, Stage};
+use crate::draft::{Block, DuePart};
 use crate::keyword::{EdgeWord, Keyword, PartWord};
 use crate::stack::Stack;
 
@@ -9,38 +9,41 @@ use crate::stack::Stack;
 const DEEPEST: usize = 64;
 
 /// Whether a line with this keyword may stand next.
-pub fn may_stand(stage: Stage, blocks: &Stack<Block>, keyword: Keyword) -> bool
-    ensures { result ≡ may_stand stage blocks.now keyword }
+pub fn may_stand(due_part: DuePart, blocks: &Stack<Block>, keyword: Keyword) -> bool
+    ensures { result ≡ may_stand due_part blocks.now keyword }
 {
     match keyword {
-        Keyword::Part(word) => part_stands(stage, blocks, word),
-        Keyword::Edge(word) => is_inside(stage) && edge_stands(blocks, word),
-        Keyword::Simple(_) => is_inside(stage),
-        Keyword::Event(_) => stage == Stage::Events,
+        Keyword::Part(word) => part_stands(due_part, blocks, word),
+        Keyword::Edge(word) => is_inside(due_part) && edge_stands(blocks, word),
+        Keyword::Simple(_) => is_inside(due_part),
+        Keyword::Event(_) => due_part == DuePart::Events,
     }
 }
 
 // Statements may stand in a callback and in the body.
-fn is_inside(stage: Stage) -> bool
-    ensures { result ≡ is_inside stage }
+fn is_inside(due_part: DuePart) -> bool
+    ensures { result ≡ is_inside due_part }
 {
-    matches!(stage, Stage::Callback | Stage::Body)
+    matches!(due_part, DuePart::Callback | DuePart::Body)
 }
 
-fn part_stands(stage: Stage, blocks: &Stack<Block>, word: PartWord) -> bool
-    ensures { result ≡ part_stands stage blocks.now word }
+fn part_stands(due_part: DuePart, blocks: &Stack<Block>, word: PartWord) -> bool
+    ensures { result ≡ part_stands due_part blocks.now word }
 {
     match word {
-        PartWord::Fenix => stage == Stage::Fenix,
-        PartWord::Ranks => stage == Stage::Ranks,
-        PartWord::Spares => stage == Stage::Spares,
-        PartWord::Separation => stage == Stage::Separation,
-        PartWord::Array | PartWord::Counter => stage == Stage::Names,
-        PartWord::Callback | PartWord::Begin => matches!(stage, Stage::Names | Stage::Callbacks),
-        PartWord::EndCallback => stage == Stage::Callback && blocks.len() == 0,
-        PartWord::End => stage == Stage::Body && blocks.len() == 0,
-        PartWord::Schedule => stage == Stage::Schedule,
-        PartWord::Stop => stage == Stage::Events,
+        PartWord::Fenix => due_part == DuePart::Fenix,
+        PartWord::Ranks => due_part == DuePart::Ranks,
+        PartWord::Spares => due_part == DuePart::Spares,
+        PartWord::Separation => due_part == DuePart::Separation,
+        PartWord::Array | PartWord::Counter => due_part == DuePart::Names,
+        PartWord::Callback | PartWord::Begin => matches!(
+            due_part,
+            DuePart::Names | DuePart::Callbacks
+        ),
+        PartWord::EndCallback => due_part == DuePart::Callback && blocks.len() == 0,
+        PartWord::End => due_part == DuePart::Body && blocks.len() == 0,
+        PartWord::Schedule => due_part == DuePart::Schedule,
+        PartWord::Stop => due_part == DuePart::Events,
     }
 }
 

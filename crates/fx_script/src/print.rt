@@ -1,5 +1,5 @@
 ghost use Rattle.std.specs.Prelude.{◌≡◌, [], ◌∷◌, ◌++◌, IfOk, OnOk, codes, map};
-ghost use Rattle.fx_script.specs.Canonical.{HasText, SpellsAlone, canonical, entry_line, line_of, text_of};
+ghost use Rattle.fx_script.specs.Canonical.{HasText, SpellsAlone, canonical, entry_line, line_of_words, text_of};
 ghost use Rattle.fx_script.specs.Spelling.{anywhere, callback_entries, chained, decl_entry, event_entry, event_words, heading};
 
 use crate::job::{Callback, Decl, Event, EventKind, Job};
@@ -97,7 +97,7 @@ fn put_events(out: &mut Bytes, events: &[Event]) -> Result<(), NoMemory>
 }
 
 fn put_event(out: &mut Bytes, kind: EventKind) -> Result<(), NoMemory>
-    ensures { OnOk result (out.new ≡ out.old ++ (line_of (event_words kind) ++ 10 ∷ [])) }
+    ensures { OnOk result (out.new ≡ out.old ++ (line_of_words (event_words kind) ++ 10 ∷ [])) }
 {
     match kind {
         EventKind::Step(process) => put_numbered(out, b"step", process),

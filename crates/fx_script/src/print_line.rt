@@ -1,6 +1,6 @@
 ghost use Rattle.std.specs.Prelude.{◌≡◌, [], ◌∷◌, ◌++◌, OnOk, codes};
 ghost use Rattle.std.specs.Fmt.{signed_decimal};
-ghost use Rattle.fx_script.specs.Canonical.{line_of};
+ghost use Rattle.fx_script.specs.Canonical.{line_of_words};
 ghost use Rattle.fx_script.specs.Exprs.{expr_words};
 ghost use Rattle.fx_script.specs.Spelling.{picked_words};
 
@@ -12,7 +12,7 @@ use fx_text::{put_number, put_word};
 
 /// Writes a line of one word.
 pub fn put_bare(out: &mut Bytes, first: &[u8]) -> Result<(), NoMemory>
-    ensures { OnOk result (out.new ≡ out.old ++ (line_of (first.now ∷ []) ++ 10 ∷ [])) }
+    ensures { OnOk result (out.new ≡ out.old ++ (line_of_words (first.now ∷ []) ++ 10 ∷ [])) }
 {
     out.append(first)?;
     out.push(b'\n')
@@ -20,7 +20,7 @@ pub fn put_bare(out: &mut Bytes, first: &[u8]) -> Result<(), NoMemory>
 
 /// Writes a line of a word and a name.
 pub fn put_named(out: &mut Bytes, first: &[u8], name: &[u8]) -> Result<(), NoMemory>
-    ensures { OnOk result (out.new ≡ out.old ++ (line_of (first.now ∷ name.now ∷ []) ++ 10 ∷ [])) }
+    ensures { OnOk result (out.new ≡ out.old ++ (line_of_words (first.now ∷ name.now ∷ []) ++ 10 ∷ [])) }
 {
     out.append(first)?;
     put_word(out, name)?;
@@ -34,7 +34,7 @@ pub fn put_two_named(
     one: &[u8],
     other: &[u8],
 ) -> Result<(), NoMemory>
-    ensures { OnOk result (out.new ≡ out.old ++ (line_of (first.now ∷ one.now ∷ other.now ∷ []) ++ 10 ∷ [])) }
+    ensures { OnOk result (out.new ≡ out.old ++ (line_of_words (first.now ∷ one.now ∷ other.now ∷ []) ++ 10 ∷ [])) }
 {
     out.append(first)?;
     put_words(out, one, other)?;
@@ -43,7 +43,7 @@ pub fn put_two_named(
 
 /// Writes a line of a word and a number.
 pub fn put_numbered(out: &mut Bytes, first: &[u8], number: i64) -> Result<(), NoMemory>
-    ensures { OnOk result (out.new ≡ out.old ++ (line_of (first.now ∷ signed_decimal number ∷ []) ++ 10 ∷ [])) }
+    ensures { OnOk result (out.new ≡ out.old ++ (line_of_words (first.now ∷ signed_decimal number ∷ []) ++ 10 ∷ [])) }
 {
     out.append(first)?;
     put_number(out, number)?;
@@ -52,7 +52,7 @@ pub fn put_numbered(out: &mut Bytes, first: &[u8], number: i64) -> Result<(), No
 
 /// Writes a line of a word and two numbers.
 pub fn put_two_numbered(out: &mut Bytes, first: &[u8], one: i64, other: i64) -> Result<(), NoMemory>
-    ensures { OnOk result (out.new ≡ out.old ++ (line_of (first.now ∷ signed_decimal one ∷ signed_decimal other ∷ []) ++ 10 ∷ [])) }
+    ensures { OnOk result (out.new ≡ out.old ++ (line_of_words (first.now ∷ signed_decimal one ∷ signed_decimal other ∷ []) ++ 10 ∷ [])) }
 {
     out.append(first)?;
     put_numbers(out, one, other)?;
@@ -61,7 +61,7 @@ pub fn put_two_numbered(out: &mut Bytes, first: &[u8], one: i64, other: i64) -> 
 
 /// Writes a line of a word, a name and a number.
 pub fn put_sized(out: &mut Bytes, first: &[u8], name: &[u8], number: i64) -> Result<(), NoMemory>
-    ensures { OnOk result (out.new ≡ out.old ++ (line_of (first.now ∷ name.now ∷ signed_decimal number ∷ []) ++ 10 ∷ [])) }
+    ensures { OnOk result (out.new ≡ out.old ++ (line_of_words (first.now ∷ name.now ∷ signed_decimal number ∷ []) ++ 10 ∷ [])) }
 {
     out.append(first)?;
     put_word(out, name)?;
@@ -77,7 +77,7 @@ pub fn put_two_sized(
     other: &[u8],
     number: i64,
 ) -> Result<(), NoMemory>
-    ensures { OnOk result (out.new ≡ out.old ++ (line_of (first.now ∷ one.now ∷ other.now ∷ signed_decimal number ∷ []) ++ 10 ∷ [])) }
+    ensures { OnOk result (out.new ≡ out.old ++ (line_of_words (first.now ∷ one.now ∷ other.now ∷ signed_decimal number ∷ []) ++ 10 ∷ [])) }
 {
     out.append(first)?;
     put_words(out, one, other)?;
@@ -92,7 +92,7 @@ pub fn put_computed(
     name: &[u8],
     value: &Expr,
 ) -> Result<(), NoMemory>
-    ensures { OnOk result (out.new ≡ out.old ++ (line_of (first.now ∷ name.now ∷ expr_words value.now) ++ 10 ∷ [])) }
+    ensures { OnOk result (out.new ≡ out.old ++ (line_of_words (first.now ∷ name.now ∷ expr_words value.now) ++ 10 ∷ [])) }
 {
     out.append(first)?;
     put_word(out, name)?;
@@ -108,7 +108,7 @@ pub fn put_three_numbered(
     two: i64,
     three: i64,
 ) -> Result<(), NoMemory>
-    ensures { OnOk result (out.new ≡ out.old ++ (line_of (first.now ∷ signed_decimal one ∷ signed_decimal two ∷ signed_decimal three ∷ []) ++ 10 ∷ [])) }
+    ensures { OnOk result (out.new ≡ out.old ++ (line_of_words (first.now ∷ signed_decimal one ∷ signed_decimal two ∷ signed_decimal three ∷ []) ++ 10 ∷ [])) }
 {
     out.append(first)?;
     put_three_numbers(out, one, two, three)?;
@@ -117,7 +117,7 @@ pub fn put_three_numbered(
 
 /// Writes the line that attaches an array to a group.
 pub fn put_member(out: &mut Bytes, group: i64, member: i64, array: &[u8]) -> Result<(), NoMemory>
-    ensures { OnOk result (out.new ≡ out.old ++ (line_of (codes "member" ∷ signed_decimal group ∷ signed_decimal member ∷ array.now ∷ []) ++ 10 ∷ [])) }
+    ensures { OnOk result (out.new ≡ out.old ++ (line_of_words (codes "member" ∷ signed_decimal group ∷ signed_decimal member ∷ array.now ∷ []) ++ 10 ∷ [])) }
 {
     out.append(b"member")?;
     put_numbers(out, group, member)?;
@@ -127,7 +127,7 @@ pub fn put_member(out: &mut Bytes, group: i64, member: i64, array: &[u8]) -> Res
 
 /// Writes the line that stores elements of a member.
 pub fn put_store(out: &mut Bytes, group: i64, member: i64, subset: &Picked) -> Result<(), NoMemory>
-    ensures { OnOk result (out.new ≡ out.old ++ (line_of (codes "store" ∷ signed_decimal group ∷ signed_decimal member ∷ picked_words subset.now) ++ 10 ∷ [])) }
+    ensures { OnOk result (out.new ≡ out.old ++ (line_of_words (codes "store" ∷ signed_decimal group ∷ signed_decimal member ∷ picked_words subset.now) ++ 10 ∷ [])) }
 {
     out.append(b"store")?;
     put_numbers(out, group, member)?;
@@ -137,7 +137,7 @@ pub fn put_store(out: &mut Bytes, group: i64, member: i64, subset: &Picked) -> R
 
 /// Writes the line that restores a member.
 pub fn put_restore(out: &mut Bytes, group: i64, member: i64, stamp: &Expr) -> Result<(), NoMemory>
-    ensures { OnOk result (out.new ≡ out.old ++ (line_of (codes "restore" ∷ signed_decimal group ∷ signed_decimal member ∷ expr_words stamp.now) ++ 10 ∷ [])) }
+    ensures { OnOk result (out.new ≡ out.old ++ (line_of_words (codes "restore" ∷ signed_decimal group ∷ signed_decimal member ∷ expr_words stamp.now) ++ 10 ∷ [])) }
 {
     out.append(b"restore")?;
     put_numbers(out, group, member)?;
@@ -147,7 +147,7 @@ pub fn put_restore(out: &mut Bytes, group: i64, member: i64, stamp: &Expr) -> Re
 
 /// Writes the line that deletes a snapshot.
 pub fn put_drop(out: &mut Bytes, group: i64, stamp: &Expr) -> Result<(), NoMemory>
-    ensures { OnOk result (out.new ≡ out.old ++ (line_of (codes "drop" ∷ signed_decimal group ∷ expr_words stamp.now) ++ 10 ∷ [])) }
+    ensures { OnOk result (out.new ≡ out.old ++ (line_of_words (codes "drop" ∷ signed_decimal group ∷ expr_words stamp.now) ++ 10 ∷ [])) }
 {
     out.append(b"drop")?;
     put_number(out, group)?;

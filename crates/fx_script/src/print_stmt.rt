@@ -1,6 +1,6 @@
 ghost use Rattle.std.specs.Prelude.{◌≡◌, [], ◌∷◌, ◌++◌, OnOk, codes};
 ghost use Rattle.std.specs.Fmt.{signed_decimal};
-ghost use Rattle.fx_script.specs.Canonical.{line_of, text_of};
+ghost use Rattle.fx_script.specs.Canonical.{line_of_words, text_of};
 ghost use Rattle.fx_script.specs.Exprs.{expr_words};
 ghost use Rattle.fx_script.specs.Spelling.{stmt_entries, stmts_entries, test_text};
 
@@ -17,7 +17,7 @@ use fx_text::put_word;
 /// Writes the lines of statements and a last line of one word.
 #[cycle(printing)]
 pub fn put_block(out: &mut Bytes, body: &[Stmt], last: &[u8]) -> Result<(), NoMemory>
-    ensures { OnOk result (out.new ≡ out.old ++ (text_of (stmts_entries body.now) ++ (line_of (last.now ∷ []) ++ 10 ∷ []))) }
+    ensures { OnOk result (out.new ≡ out.old ++ (text_of (stmts_entries body.now) ++ (line_of_words (last.now ∷ []) ++ 10 ∷ []))) }
 {
     put_stmts(out, body)?;
     put_bare(out, last)
@@ -124,7 +124,7 @@ fn put_stmt(out: &mut Bytes, stmt: &Stmt) -> Result<(), NoMemory>
 }
 
 fn put_if(out: &mut Bytes, test: Test, left: &Expr, right: &Expr) -> Result<(), NoMemory>
-    ensures { OnOk result (out.new ≡ out.old ++ (line_of (codes "if" ∷ test_text test ∷ (expr_words left.now ++ expr_words right.now)) ++ 10 ∷ [])) }
+    ensures { OnOk result (out.new ≡ out.old ++ (line_of_words (codes "if" ∷ test_text test ∷ (expr_words left.now ++ expr_words right.now)) ++ 10 ∷ [])) }
 {
     out.append(b"if")?;
     put_word(out, test_text(test))?;
@@ -133,7 +133,7 @@ fn put_if(out: &mut Bytes, test: Test, left: &Expr, right: &Expr) -> Result<(), 
 }
 
 fn put_for(out: &mut Bytes, counter: &[u8], first: &Expr, last: i64) -> Result<(), NoMemory>
-    ensures { OnOk result (out.new ≡ out.old ++ (line_of (codes "for" ∷ counter.now ∷ (expr_words first.now ++ signed_decimal last ∷ [])) ++ 10 ∷ [])) }
+    ensures { OnOk result (out.new ≡ out.old ++ (line_of_words (codes "for" ∷ counter.now ∷ (expr_words first.now ++ signed_decimal last ∷ [])) ++ 10 ∷ [])) }
 {
     out.append(b"for")?;
     put_word(out, counter)?;

@@ -5,7 +5,7 @@ ghost use Rattle.fx_script.specs.Reading.{sound, head_in, taken, line_taken, at_
 ghost use Rattle.fx_script.specs.Answers.{Advances, Proceeds, Answers};
 
 use crate::cursor::{Cursor, FoundWord};
-use crate::draft::{Draft, Stage};
+use crate::draft::{Draft, DuePart};
 use crate::head::{Head, read_head};
 use crate::keyword::keyword_of;
 use crate::order::may_stand;
@@ -33,8 +33,8 @@ pub fn read_text(alloc: Global, text: &[u8]) -> Result<Draft, ReadJob>
         number += 1;
         at = line.to + 1;
     }
-    match draft.stage {
-        Stage::Stopped => Ok(draft),
+    match draft.due_part {
+        DuePart::Stopped => Ok(draft),
         _ => Err(ReadJob::Refused(
             JobFault::MissingPart,
             Spot {
@@ -138,16 +138,16 @@ fn head_of(
     first: FoundWord,
     cursor: &mut Cursor,
 ) -> Result<Head, Stop>
-    ensures { Gives result (head_in draft.entry.now.stage draft.entry.now.blocks spot (word_of first.entry) cursor.old) }
+    ensures { Gives result (head_in draft.entry.now.due_part draft.entry.now.blocks spot (word_of first.entry) cursor.old) }
 {
-    if draft.stage == Stage::Stopped {
+    if draft.due_part == DuePart::Stopped {
         return Err(Stop::Wrong(Wrong {
             fault: JobFault::TrailingText,
             column: first.column,
         }));
     }
     match keyword_of(first.bytes) {
-        Some(keyword) if may_stand(draft.stage, &draft.blocks, keyword) => {
+        Some(keyword) if may_stand(draft.due_part, &draft.blocks, keyword) => {
             read_head(alloc, keyword, spot, cursor)
         }
         _ => Err(first.misfit()),

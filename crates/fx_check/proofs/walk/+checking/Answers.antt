@@ -2,7 +2,7 @@ use Rattle.std.proofs.Common.{rules, arith, ◌+◌, ◌++◌, Option, Result, O
 use Rattle.std.proofs.lemmas.Result.{err_from_is_err_and}
 use Rattle.fx_script.specs.declared.job.Stmt.TheViews.{the_lemmas}
 use Rattle.fx_check.specs.declared.fault.CheckJob.{CheckJob}
-use Rattle.fx_check.specs.Acceptance.{Refused, Tells, first_refused, line_of, stmt_lines, stmts_lines}
+use Rattle.fx_check.specs.Acceptance.{Refused, Tells, first_refused, judged_line, stmt_lines, stmts_lines}
 use Rattle.fx_check.specs.Facts.{facts_of, or_first}
 use Rattle.fx_check.specs.Rules.{inside_when, inside_if, inside_for}
 use Rattle.fx_check.proofs.Walks.{refused_append, answers_on, answers_stop, answers_behind, refuses_behind, when_lines, if_lines, if_alone_lines, if_begins, for_lines, if_room, for_room, lines_from}
@@ -12,7 +12,7 @@ pub check_stmt-returns-in-RoleOnly : goal.check_stmt-returns-in-RoleOnly
 check_stmt-returns-in-RoleOnly t c =
     let b = c.in-RoleOnly in
     let f = facts_of c.args.job.now in
-    answers_behind c.check_stmts.result (line_of f c.args.place c.args.statement.now) (stmts_lines f b.body (inside_when c.args.place)) (stmt_lines f c.args.statement.now c.args.place)
+    answers_behind c.check_stmts.result (judged_line f c.args.place c.args.statement.now) (stmts_lines f b.body (inside_when c.args.place)) (stmt_lines f c.args.statement.now c.args.place)
     (when_lines f c.args.place c.args.statement.now b.spot b.role b.body b.is) (sym c.in_ok-fault.ensures ∙ c.in_default.is)
     (rw (c.as_slice.ensures, c.inside_when.ensures.same) at c.check_stmts.ensures)
 
@@ -20,7 +20,7 @@ pub check_stmt-returns-in-Loop : goal.check_stmt-returns-in-Loop
 check_stmt-returns-in-Loop t c =
     let b = c.in-Loop in
     let f = facts_of c.args.job.now in
-    answers_behind c.check_stmts-in-Loop.result (line_of f c.args.place c.args.statement.now) (stmts_lines f b.body (inside_for c.args.place)) (stmt_lines f c.args.statement.now c.args.place)
+    answers_behind c.check_stmts-in-Loop.result (judged_line f c.args.place c.args.statement.now) (stmts_lines f b.body (inside_for c.args.place)) (stmt_lines f c.args.statement.now c.args.place)
     (for_lines f c.args.place c.args.statement.now b.spot b.counter b.first b.last b.body b.is) (sym c.in_ok-fault.ensures ∙ c.in_default.is)
     (rw (c.as_slice-in-Loop.ensures, c.inside_for.ensures.same) at c.check_stmts-in-Loop.ensures)
 
@@ -30,7 +30,7 @@ check_stmt-returns-in-Some-no t c =
     let f = facts_of c.args.job.now in
     let first = stmts_lines f b.yes (inside_if c.args.place) in
     let other = stmts_lines f c.in-Some-no.no (inside_if c.args.place) in
-    answers_behind c.check_stmts-in-Some-no.result (line_of f c.args.place c.args.statement.now) (first ++ other) (stmt_lines f c.args.statement.now c.args.place)
+    answers_behind c.check_stmts-in-Some-no.result (judged_line f c.args.place c.args.statement.now) (first ++ other) (stmt_lines f c.args.statement.now c.args.place)
     (if_lines f c.args.place c.args.statement.now b.spot b.test b.left b.right b.yes c.in-Some-no.no b.no b.is c.in-Some-no.is) (sym c.in_ok-fault.ensures ∙ c.in_default.is)
     (answers_on c.check_stmts-in-Some-no.result first other (rw (c.as_slice-in-Branch.ensures, c.inside_if.ensures.same) at c.in_ok-check_stmts-in-Branch.ensures)
     (rw (c.as_slice-in-Some-no.ensures, c.inside_if-in-Some-no.ensures.same) at c.check_stmts-in-Some-no.ensures))
@@ -42,7 +42,7 @@ pub check_stmt-returns-in-None : goal.check_stmt-returns-in-None
 check_stmt-returns-in-None t c =
     let b = c.in-Branch in
     let f = facts_of c.args.job.now in
-    answers_behind (ok_unit tt) (line_of f c.args.place c.args.statement.now) (stmts_lines f b.yes (inside_if c.args.place)) (stmt_lines f c.args.statement.now c.args.place)
+    answers_behind (ok_unit tt) (judged_line f c.args.place c.args.statement.now) (stmts_lines f b.yes (inside_if c.args.place)) (stmt_lines f c.args.statement.now c.args.place)
     (if_alone_lines f c.args.place c.args.statement.now b.spot b.test b.left b.right b.yes b.no b.is c.in-None.is) (sym c.in_ok-fault.ensures ∙ c.in_default.is)
     (rw (c.as_slice-in-Branch.ensures, c.inside_if.ensures.same) at c.in_ok-check_stmts-in-Branch.ensures)
 
@@ -54,7 +54,7 @@ check_stmt-returns-in_err-check_stmts-in-Branch t c =
     let first = stmts_lines f b.yes (inside_if c.args.place) in
     let begins = if_begins f c.args.place c.args.statement.now b.spot b.test b.left b.right b.yes b.no b.is in
     let p = err_from_is_err_and c.from_residual-in_err-check_stmts-in-Branch.result c.from_residual-in_err-check_stmts-in-Branch.ensures.1 in
-    rw (p.1, p.2) (refuses_behind e (line_of f c.args.place c.args.statement.now) (first ++ begins.0) (stmt_lines f c.args.statement.now c.args.place) begins.1 (sym c.in_ok-fault.ensures ∙ c.in_default.is)
+    rw (p.1, p.2) (refuses_behind e (judged_line f c.args.place c.args.statement.now) (first ++ begins.0) (stmt_lines f c.args.statement.now c.args.place) begins.1 (sym c.in_ok-fault.ensures ∙ c.in_default.is)
     (answers_stop e first begins.0 (rw (c.as_slice-in-Branch.ensures, c.inside_if.ensures.same) at c.in_err-check_stmts-in-Branch.ensures)))
 
 pub check_stmts-returns-in_err-check_stmt : goal.check_stmts-returns-in_err-check_stmt

@@ -1,0 +1,28 @@
+use Rattle.std.proofs.Common.{map, string_bytes}
+use Rattle.fx_cli.proofs.Ending.{is_done, is_unbuilt, is_due, is_ran, is_printed}
+use Rattle.fx_cli.proofs.program.fenix.Goals as goal
+
+pub returns-clause-done : goal.returns-clause-done
+returns-clause-done g c =
+    is_done (map string_bytes c.args.words.now) (g.S.Source.state c.args.source.now) (g.S.Source.state c.call.new.source)
+    (g.K.Sink.state c.args.sink.now) (g.K.Sink.state c.call.new.sink) c.call.result c.call.ensures.ends
+
+pub returns-clause-not_built_is_accepted : goal.returns-clause-not_built_is_accepted
+returns-clause-not_built_is_accepted g c =
+    is_unbuilt (map string_bytes c.args.words.now) (g.S.Source.state c.args.source.now) (g.S.Source.state c.call.new.source)
+    (g.K.Sink.state c.args.sink.now) (g.K.Sink.state c.call.new.sink) c.call.result c.call.ensures.ends
+
+pub returns-clause-status_is_due : goal.returns-clause-status_is_due
+returns-clause-status_is_due g c =
+    is_due (map string_bytes c.args.words.now) (g.S.Source.state c.args.source.now) (g.S.Source.state c.call.new.source)
+    (g.K.Sink.state c.args.sink.now) (g.K.Sink.state c.call.new.sink) c.call.result c.call.ensures.ends
+
+pub returns-clause-jobs_are_run : goal.returns-clause-jobs_are_run
+returns-clause-jobs_are_run g c =
+    is_ran (map string_bytes c.args.words.now) (g.S.Source.state c.args.source.now) (g.S.Source.state c.call.new.source)
+    (g.K.Sink.state c.args.sink.now) (g.K.Sink.state c.call.new.sink) c.call.result c.call.ensures.ends
+
+pub returns-clause-accepted_jobs_are_printed : goal.returns-clause-accepted_jobs_are_printed
+returns-clause-accepted_jobs_are_printed g c =
+    is_printed (map string_bytes c.args.words.now) (g.S.Source.state c.args.source.now) (g.S.Source.state c.call.new.source)
+    (g.K.Sink.state c.args.sink.now) (g.K.Sink.state c.call.new.sink) c.call.result c.call.ensures.ends
