@@ -2,7 +2,7 @@ ghost use Rattle.std.specs.Prelude.{◌≡◌, ◌≤◌};
 ghost use Rattle.fx_script.specs.Canonical.{HasText};
 ghost use Rattle.fx_check.specs.Acceptance.{IsAccepted};
 ghost use Rattle.fx_check.specs.Parts.{KeepsByParts};
-ghost use Rattle.fx_check.specs.Rules.{procs_of};
+ghost use Rattle.fx_check.specs.Rules.{count_of, procs_of};
 ghost use Rattle.fx_check.specs.Work.{bound_of, bound_with, work_of};
 
 use fx_script::Job;
@@ -60,6 +60,15 @@ impl Accepted {
         ensures at_most { result ≤ 16 }
     {
         self.procs
+    }
+
+    /// How many ranks there are, 1 to 16.
+    pub fn ranks(&self) -> u8
+        ensures same { result ≡ count_of self.now.ranks }
+        ensures at_least { 1 ≤ result }
+        ensures at_most { result ≤ 16 }
+    {
+        self.job.ranks as u8
     }
 
     /// The work of the body, at most 20,000: a statement counts 1, and a loop its test and its

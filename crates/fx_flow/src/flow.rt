@@ -171,6 +171,7 @@ impl Flow {
     /// survivor's arrays and callbacks stay, and another's elements are 0 and its callbacks
     /// forgotten. It takes no memory.
     pub fn rewind(&mut self, role: Role)
+        ensures goes_back { IsAtBegin self.new }
         ensures begins { (job : Job) → IsFlowOf job self.old → (view : View) → DoesRest view (job_walk job view (at_init (facts_of job) role (state_of self.old))) self.new }
         ensures keeps { (job : Job) → IsFlowOf job self.old → state_of self.new ≡ at_init (facts_of job) role (state_of self.old) }
         ensures same_job { (job : Job) → IsFlowOf job self.old → IsFlowOf job self.new }

@@ -171,18 +171,22 @@ turn_in b n phase = turn (length b.members) (seat_of b.members n.me) (λ k. seen
 
 -- ---- what is over
 
--- a call that is over
-abbrev pub is_past_call : Node → (epoch call : ℕ) → Bool
-is_past_call n e k = nat_lt e n.epoch || ((e == n.epoch) && nat_lt k n.calls)
+-- a call is over, for who has come to this call of this epoch
+abbrev pub is_past_call : (epoch calls : ℕ) → (e k : ℕ) → Bool
+is_past_call epoch calls e k = nat_lt e epoch || ((e == epoch) && nat_lt k calls)
 
--- a text of a ballot or of a call that is over: no later action reads it, so a node may forget it
+-- a text is of a ballot or of a call that is over, for who has come to this call of this epoch
+abbrev pub is_past_at : (epoch calls : ℕ) → Text → Bool
+is_past_at epoch calls (Join e kind) = nat_le e epoch
+is_past_at epoch calls (Jest e r slots) = nat_le e epoch
+is_past_at epoch calls (Part e k values) = is_past_call epoch calls e k
+is_past_at epoch calls (Vote e k x) = is_past_call epoch calls e k
+is_past_at epoch calls (Est e k r slots) = is_past_call epoch calls e k
+is_past_at epoch calls (Share e k packed) = is_past_call epoch calls e k
+is_past_at epoch calls (Tell e k known) = is_past_call epoch calls e k
+is_past_at epoch calls (Help e k packed) = is_past_call epoch calls e k
+is_past_at epoch calls (Give e k packed) = is_past_call epoch calls e k
+
+-- no later action of a node reads a text that is past, so it may forget it
 abbrev pub is_past : Node → Text → Bool
-is_past n (Join e kind) = nat_le e n.epoch
-is_past n (Jest e r slots) = nat_le e n.epoch
-is_past n (Part e k values) = is_past_call n e k
-is_past n (Vote e k x) = is_past_call n e k
-is_past n (Est e k r slots) = is_past_call n e k
-is_past n (Share e k packed) = is_past_call n e k
-is_past n (Tell e k known) = is_past_call n e k
-is_past n (Help e k packed) = is_past_call n e k
-is_past n (Give e k packed) = is_past_call n e k
+is_past n t = is_past_at n.epoch n.calls t
