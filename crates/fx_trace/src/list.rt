@@ -1,6 +1,6 @@
-ghost use Rattle.std.specs.Prelude.{◌≡◌, ◌<◌, ◌∷◌, ◌++◌, false, map, OnOk};
+ghost use Rattle.std.specs.Prelude.{◌≡◌, ◌<◌, ◌∷◌, ◌++◌, [], false, map, OnOk};
 ghost use Rattle.std.specs.FinMap.{entries};
-ghost use Rattle.std.specs.Fmt.{digit_glyph};
+ghost use Rattle.std.specs.Fmt.{digit_glyph, signed_decimal};
 ghost use Rattle.fx_text.specs.Written.{Keeps, spaced};
 ghost use Rattle.fx_lines.specs.Fields.{a_seat, a_stamp};
 ghost use Rattle.fx_lines.specs.Hex.{hex_of};
@@ -82,8 +82,16 @@ fn put_element(out: &mut Bytes, index: u32, element: &i64) -> Result<(), NoMemor
     ensures keeps { Keeps out.old out.new }
 {
     put_number(out, i64::from(index))?;
+    put_value(out, *element)
+}
+
+// Writes a number behind `=`.
+fn put_value(out: &mut Bytes, value: i64) -> Result<(), NoMemory>
+    ensures ok { OnOk result (out.new ≡ out.old ++ 61 ∷ signed_decimal value) }
+    ensures keeps { Keeps out.old out.new }
+{
     out.push(b'=')?;
-    push_number(out, *element)
+    push_number(out, value)
 }
 
 fn put_shares(out: &mut Bytes, shares: &StampShares) -> Result<(), NoMemory>
@@ -113,10 +121,40 @@ fn push_hex(out: &mut Bytes, bytes: &[u8]) -> Result<(), NoMemory>
     ensures ok { OnOk result (out.new ≡ out.old ++ hex_of bytes.now) }
     ensures keeps { Keeps out.old out.new }
 {
+    let mut rest = bytes;
+    while let [a, b, c, d, more @ ..] = rest {
+        push_four(out, *a, *b, *c, *d)?;
+        rest = more;
+    }
+    push_bytes(out, rest)
+}
+
+// The digits of bytes, byte by byte.
+fn push_bytes(out: &mut Bytes, bytes: &[u8]) -> Result<(), NoMemory>
+    ensures ok { OnOk result (out.new ≡ out.old ++ hex_of bytes.now) }
+    ensures keeps { Keeps out.old out.new }
+{
     for byte in bytes {
         out.append(&[hex_digit(*byte / 16), hex_digit(*byte % 16)])?;
     }
     Ok(())
+}
+
+// The digits of four bytes, appended at once.
+fn push_four(out: &mut Bytes, a: u8, b: u8, c: u8, d: u8) -> Result<(), NoMemory>
+    ensures ok { OnOk result (out.new ≡ out.old ++ hex_of (a ∷ b ∷ c ∷ d ∷ [])) }
+    ensures keeps { Keeps out.old out.new }
+{
+    out.append(&[
+        hex_digit(a / 16),
+        hex_digit(a % 16),
+        hex_digit(b / 16),
+        hex_digit(b % 16),
+        hex_digit(c / 16),
+        hex_digit(c % 16),
+        hex_digit(d / 16),
+        hex_digit(d % 16),
+    ])
 }
 
 // The digit of a number below 16.
