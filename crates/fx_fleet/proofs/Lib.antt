@@ -2,6 +2,7 @@ mod Bodies
 mod Words
 mod BarrierRow
 mod WireRow
+mod StepRows
 mod SpareRow
 mod AgreementRow
 mod NumbersRow
