@@ -1,1 +1,6 @@
 mod Fronts
+mod Words
+mod CallRows
+mod GroupRows
+mod DataRows
+mod EpochRows
