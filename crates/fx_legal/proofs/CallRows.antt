@@ -3,6 +3,7 @@ use Rattle.std.proofs.Common.{◌≡◌, ℕ, zero, suc, Bool, true, false, ◌=
 use Rattle.std.specs.Prelude.{pos, negsuc}
 use Rattle.std.specs.Ordering.{int_eq}
 use Rattle.fx_base.specs.declared.names.Op.TheVariants as op
+use Rattle.fx_base.specs.declared.names.Proc.{Proc}
 use Rattle.fx_item.specs.declared.item.Item.{Item}
 use Rattle.fx_link.specs.declared.slot.Slot.TheVariants as slot
 use Rattle.fx_script.specs.declared.job.Job.{Job}
@@ -182,3 +183,12 @@ barrier_may_fail = (omega arith, ((((refl, refl, tt), refl), tt), refl, refl))
 
 agreement_may_not : Refuses with_kill (losing (wanted.Agree (pos 6)) (wanted.Agree (pos 3))) (agree 0 1 (pos 6) ∷ agree 1 1 (pos 3) ∷ value 0 1 (pos 2) ∷ kill 0 ∷ []) (failed 1 1 0)
 agreement_may_not may = absurd may.1.0.1
+
+-- and where one has failed by a process another fails by the same
+
+agreement_fails : Accepts with_kill (losing (wanted.Agree (pos 6)) (wanted.Agree (pos 3))) (agree 1 1 (pos 3) ∷ kill 0 ∷ []) (failed 1 1 0)
+agreement_fails = (omega arith, ((((refl, refl, tt), refl), tt), refl, refl))
+
+not_by_another : Refuses with_kill (losing (wanted.Agree (pos 6)) (wanted.Agree (pos 3)))
+    (agree 0 1 (pos 6) ∷ agree 1 1 (pos 3) ∷ failed 0 1 1 ∷ kill 0 ∷ []) (failed 1 1 0)
+not_by_another may = apart (λ (p : Proc). p.0 == 0) (record { 0 = 0 }) (record { 0 = 1 }) refl refl may.1.0.1

@@ -1,11 +1,12 @@
 -- Rows of what a process shows and answers by itself, and of closings and deletions.
-use Rattle.std.proofs.Common.{◌≡◌, ℕ, Bool, true, false, not, ◌==◌, List, [], ◌∷◌, get_or, Some, None, is_some, nat_cmp, refl, ap, sym, ◌∙◌, arith}
+use Rattle.std.proofs.Common.{◌≡◌, ℕ, Bool, true, false, not, ◌==◌, List, [], ◌∷◌, get_or, map, Some, None, is_some, nat_cmp, refl, ap, sym, ◌∙◌, arith}
 use Rattle.std.specs.Prelude.{Option, is_none, cond, ℤ, pos, codes}
 use Rattle.std.specs.Ordering.{int_eq}
 use Rattle.std.specs.FinMap.{get-empty, get-insert}
 use Rattle.std.specs.FinMap as finite
 use Rattle.std.specs.Cmp.{nat_cmp_total}
-use Rattle.fx_base.specs.Keys.{by_number_total}
+use Rattle.fx_base.specs.Keys.{by_number, by_number_total}
+use Rattle.fx_store.specs.Store.{Stamped}
 use Rattle.fx_base.specs.declared.names.Stamp.{Stamp}
 use Rattle.fx_base.specs.declared.sparse.Sparse.{Sparse}
 use Rattle.fx_base.specs.declared.snapshot.Snapshot.{Snapshot}
@@ -22,7 +23,7 @@ use Rattle.fx_legal.specs.Groups.{Group, unborn}
 use Rattle.fx_legal.specs.Ledger.{Ledger}
 use Rattle.fx_legal.specs.Rules.{stored_at}
 use Rattle.fx_legal.specs.Stands.{Stand, Note, Callback, Print, Opening}
-use Rattle.fx_legal.proofs.Words.{Accepts, Refuses, not_both, apart, alone_pair, proc, epoch, group_0, member_0, standing, walking, walking_with, nothing, done, asks, close, drop, passed, closed}
+use Rattle.fx_legal.proofs.Words.{Accepts, Refuses, not_both, apart, alone_pair, proc, epoch, call, group_0, member_0, standing, walking, walking_with, nothing, done, asks, close, drop, passed, closed}
 
 -- ---- what is shown
 
@@ -90,9 +91,29 @@ commit t = item.Commit (proc 0) (epoch 1) group_0 (stamp_at t)
 abbrev restore : ℤ → Sparse → Item
 restore t list = item.Restore (proc 0) (epoch 1) group_0 member_0 (stamp_at t) list
 
--- in these rows `t` is 0 where the statement has no stamp
+-- `t` is 0 where the statement has no stamp
 abbrev refused : Refusable → ℤ → Answer → Item
 refused statement t why = item.Refused (proc 0) (epoch 1) statement group_0 member_0 (stamp_at t) why
+
+-- without a member
+abbrev refused_for_all : Refusable → Answer → Item
+refused_for_all statement why = refused statement (pos 0) why
+
+abbrev refused_group : Answer → Item
+refused_group = refused_for_all refusable.Group
+
+abbrev refused_closing : Answer → Item
+refused_closing = refused_for_all refusable.CommitBarrier
+
+abbrev refused_commit : Answer → Item
+refused_commit = refused_for_all refusable.Commit
+
+abbrev creates : Wanted
+creates = wanted.Group group_0 (stamp_at (pos 0)) 0
+
+-- 16 snapshots with nothing in them
+abbrev sixteen : List Stamped
+sixteen = map (λ t. (stamp_at (pos t), finite.empty)) (0 ∷ 1 ∷ 2 ∷ 3 ∷ 4 ∷ 5 ∷ 6 ∷ 7 ∷ 8 ∷ 9 ∷ 10 ∷ 11 ∷ 12 ∷ 13 ∷ 14 ∷ 15 ∷ [])
 
 abbrev wants : Wanted → Ledger
 wants wanted = walking alone_pair (λ p. asks wanted)
@@ -131,6 +152,39 @@ stores = (omega arith, record { asks = (refl, refl); granted = refl; current = r
 
 not_stored : Refuses alone_pair (wants (wanted.Store group_0 member_0 three_at_0)) [] (store three_at_0)
 not_stored may = apart is_some (Some answer.NotCreated) None refl refl may.1.granted
+
+-- what isn't asked isn't answered
+not_asked : Refuses alone_pair (wants_with (wanted.Commit group_0)) [] attach
+not_asked may = apart is_commit (wanted.Commit group_0) (wanted.Attach group_0 member_0) refl refl may.1.asks.1
+  where
+    is_commit : Wanted → Bool
+    is_commit (wanted.Commit g) = true
+    is_commit other = false
+
+-- a group that was created isn't created again, and one that wasn't isn't closed
+
+refuses_group : Accepts alone_pair (wants_with creates) [] (refused_group answer.AlreadyCreated)
+refuses_group = (omega arith, ((refl, (refl, refl, refl), refl), refl))
+
+not_created_again : Refuses alone_pair (wants_with creates) [] (item.Group (proc 0) (epoch 1) (call 1) group_0)
+not_created_again may = apart is_none None (Some _) refl refl (sym may.1.2.0.0.granted)
+
+refuses_closing : Accepts alone_pair (wants (wanted.Close group_0)) [] (refused_closing answer.NotCreated)
+refuses_closing = (omega arith, ((refl, (refl, refl, refl), refl), refl))
+
+not_closed : Refuses alone_pair (wants (wanted.Close group_0)) [] (close 0 1)
+not_closed may = apart is_none None (Some _) refl refl (sym may.1.0.0.granted)
+
+-- where 16 wait no more is committed
+
+abbrev sixteen_wait : Ledger
+sixteen_wait = record (wants_with (wanted.Commit group_0)) { groups = λ g. record unborn { tentative = λ e ident. sixteen } }
+
+refuses_commit : Accepts alone_pair sixteen_wait [] (refused_commit answer.Full)
+refuses_commit = (omega arith, ((refl, (refl, refl, refl), refl), refl))
+
+not_full : Refuses alone_pair (wants_with (wanted.Commit group_0)) [] (refused_commit answer.Full)
+not_full may = apart is_none None (Some _) refl refl may.1.0.2
 
 abbrev is_1 : Stamp → Bool
 is_1 stamp = int_eq stamp.0 (pos 1)
@@ -185,6 +239,24 @@ not_nothing may = apart has_0 (Some three_at_0) (Some finite.empty) (ap is_some 
     has_0 : Option Sparse → Bool
     has_0 None = false
     has_0 (Some list) = is_some (finite.get list 0)
+
+-- an identity that stored nothing of the member has nothing to restore
+
+abbrev with_nothing : Ledger
+with_nothing = record (wants_with restore_0) { groups = λ g. record stored_once { closed = λ ident. (stamp_at (pos 0), finite.empty) ∷ [] } }
+  where
+    restore_0 : Wanted
+    restore_0 = wanted.Restore group_0 member_0 (stamp_at (pos 0))
+
+not_there : stored_at (with_nothing.groups 0) 0 member_0 (stamp_at (pos 0)) ≡ None
+not_there = get-empty by_number member_0
+
+refuses_restore : Accepts alone_pair with_nothing [] (refused refusable.Restore (pos 0) answer.NotStored)
+refuses_restore = (omega arith, ((refl, (refl, refl, refl), ap (λ entry. cond (not (is_some entry)) (Some answer.NotStored) None) not_there), refl))
+
+-- a refusal names what was asked
+not_of_another_stamp : Refuses alone_pair with_nothing [] (refused refusable.Restore (pos 1) answer.NotStored)
+not_of_another_stamp may = apart is_1 (stamp_at (pos 1)) (stamp_at (pos 0)) refl refl may.1.0.1.2
 
 no_stamp_1 : Accepts alone_pair (with_data (wanted.Restore group_0 member_0 (stamp_at (pos 1)))) [] (refused refusable.Restore (pos 1) answer.NoStamp)
 no_stamp_1 = (omega arith, ((refl, (refl, refl, refl), refl), refl))
