@@ -1,4 +1,6 @@
 mod Fronts
+mod Covered
+pub mod Entries
 mod Words
 mod CallRows
 mod GroupRows
