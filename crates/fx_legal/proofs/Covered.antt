@@ -1,6 +1,5 @@
 -- A group that is covered as a creation first returns is kept.
-use Rattle.std.proofs.Common.{◌≡◌, Bool, true, false, List, ◌∷◌, ◌++◌, Some, None, refl, sym, ◌∙◌, subst}
-use Rattle.std.specs.Prelude.{Option}
+use Rattle.std.proofs.Common.{◌≡◌, Bool, true, false, List, ◌∷◌, ◌++◌, None, refl, sym, ◌∙◌, subst}
 use Rattle.fx_base.specs.declared.names.CallNo.{CallNo}
 use Rattle.fx_base.specs.declared.names.Epoch.{Epoch}
 use Rattle.fx_base.specs.declared.names.GroupId.{GroupId}

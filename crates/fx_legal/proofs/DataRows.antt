@@ -18,11 +18,11 @@ use Rattle.fx_item.specs.declared.item.Item.{Item}
 use Rattle.fx_item.specs.declared.item.Item.TheVariants as item
 use Rattle.fx_walk.specs.declared.wanted.Wanted.{Wanted}
 use Rattle.fx_walk.specs.declared.wanted.Wanted.TheVariants as wanted
-use Rattle.fx_walk.specs.Walk.{Walk, Prints, stamp_at}
+use Rattle.fx_walk.specs.Walk.{Prints, stamp_at}
 use Rattle.fx_legal.specs.Groups.{Group, unborn}
 use Rattle.fx_legal.specs.Ledger.{Ledger}
 use Rattle.fx_legal.specs.Rules.{stored_at}
-use Rattle.fx_legal.specs.Stands.{Stand, Note, Callback, Print, Opening}
+use Rattle.fx_legal.specs.Stands.{Note, Callback, Print, Opening}
 use Rattle.fx_legal.proofs.Words.{Accepts, Refuses, not_both, apart, alone_pair, proc, epoch, call, group_0, member_0, standing, walking, walking_with, nothing, done, asks, close, drop, passed, closed}
 
 -- ---- what is shown

@@ -1,5 +1,5 @@
 -- What is so of all seats of a communicator is so of each process that has a place in it, and back.
-use Rattle.std.proofs.Common.{◌≡◌, ℕ, Bool, true, false, ◌||◌, ◌==◌, List, [], ◌∷◌, is_some, refl, subst, sym, arith}
+use Rattle.std.proofs.Common.{◌≡◌, ℕ, Bool, true, false, ◌||◌, ◌==◌, List, [], ◌∷◌, is_some, refl, subst, arith}
 use Rattle.std.specs.Prelude.{Option}
 use Rattle.fx_comm.specs.Seats.{Seat, has_place}
 use Rattle.fx_walk.specs.declared.wanted.Wanted.{Wanted}

@@ -1,5 +1,5 @@
 -- Rows of losses, joins, the begin of epochs and ends, and the whole journal of two ranks that have nothing to do.
-use Rattle.std.proofs.Common.{◌≡◌, ◌<◌, ◌⊎◌, inl, inr, ℕ, zero, suc, Bool, true, false, ◌||◌, ◌&&◌, ◌==◌, List, [], ◌∷◌, Some, None, is_some, refl, ap, sym, arith}
+use Rattle.std.proofs.Common.{◌≡◌, ◌<◌, inl, inr, ℕ, zero, suc, Bool, true, false, ◌||◌, ◌&&◌, ◌==◌, List, [], ◌∷◌, Some, None, is_some, refl, ap, sym, arith}
 use Rattle.std.specs.Prelude.{pos, if◌then◌else◌, is_none, nat_lt}
 use Rattle.fx_base.specs.Sets.{those_below}
 use Rattle.fx_base.specs.declared.names.Role.{Role}

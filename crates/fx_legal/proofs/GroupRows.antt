@@ -1,5 +1,5 @@
 -- Rows of groups: what a creation may find, and what closings, commits and restores tell.
-use Rattle.std.proofs.Common.{◌≡◌, ℕ, Bool, true, false, ◌==◌, List, [], ◌∷◌, Some, None, refl, sym, arith}
+use Rattle.std.proofs.Common.{ℕ, Bool, true, false, ◌==◌, List, [], ◌∷◌, Some, refl, sym, arith}
 use Rattle.std.specs.Prelude.{pos, if◌then◌else◌, nat_lt}
 use Rattle.fx_base.specs.declared.names.How.{How}
 use Rattle.fx_base.specs.declared.names.How.TheVariants as how
@@ -13,7 +13,7 @@ use Rattle.fx_walk.specs.declared.wanted.Wanted.TheVariants as wanted
 use Rattle.fx_walk.specs.Walk.{stamp_at}
 use Rattle.fx_legal.specs.Effects.{first_stay}
 use Rattle.fx_legal.specs.Groups.{Group, unborn, at_key}
-use Rattle.fx_legal.specs.Ledger.{Chapter, Ledger}
+use Rattle.fx_legal.specs.Ledger.{Ledger}
 use Rattle.fx_legal.specs.Stands.{Stand, Walking, Killed}
 use Rattle.fx_legal.proofs.Words.{Accepts, Refuses, not_both, apart, pair, alone_pair, proc, epoch, call, group_0, walking, standing, asks, group}
 

@@ -4,7 +4,6 @@ use Rattle.std.specs.Prelude.{ℤ, pos, if◌then◌else◌, nat_lt}
 use Rattle.fx_base.specs.declared.names.CallNo.{CallNo}
 use Rattle.fx_base.specs.declared.names.Epoch.{Epoch}
 use Rattle.fx_base.specs.declared.names.GroupId.{GroupId}
-use Rattle.fx_base.specs.declared.names.Ident.{Ident}
 use Rattle.fx_base.specs.declared.names.MemberId.{MemberId}
 use Rattle.fx_base.specs.declared.names.Op.{Op}
 use Rattle.fx_base.specs.declared.names.Proc.{Proc}
