@@ -1,1 +1,8 @@
 mod Fronts
+mod Covered
+pub mod Entries
+mod Words
+mod CallRows
+mod GroupRows
+mod DataRows
+mod EpochRows

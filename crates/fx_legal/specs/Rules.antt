@@ -27,6 +27,8 @@ use Rattle.fx_walk.specs.declared.printed.Printed.{Printed}
 use Rattle.fx_walk.specs.declared.wanted.Wanted.{Wanted}
 use Rattle.fx_walk.specs.declared.wanted.Wanted.TheVariants as wanted
 use Rattle.fx_walk.specs.Walk.{Walk, Ends, Passes, Prints, Asks}
+use Rattle.fx_legal.specs.Calls.{EntersAlike, AllHaveEntered, HasValue, HasShifted, ReturnsAlike}
+use Rattle.fx_legal.specs.Creations.{MayFind}
 use Rattle.fx_legal.specs.Groups.{Group, has_stamp, commit_stamp, last_waiting}
 use Rattle.fx_legal.specs.Ledger.{Chapter, Ledger, ranks_of, procs_of, comm_in, is_present, role_in, first_success}
 use Rattle.fx_legal.specs.Effects.{belongs, due_kills, ident_of}
@@ -214,6 +216,10 @@ IsNextCall k other = ⊥
 abbrev pub MayEnter : Ledger → Proc → Epoch → CallNo → Wanted → Type 0
 MayEnter l p e k asked = MayDo l p e.0 asked × IsNextCall k (l.stands p.0)
 
+-- and who has entered it so far entered it alike
+abbrev pub EntersCall : Ledger → Proc → Epoch → CallNo → Wanted → Type 0
+EntersCall l p e k asked = MayEnter l p e k asked × EntersAlike l e k asked
+
 -- which returns answer which calls
 abbrev pub Answers : Item → Wanted → Type 0
 Answers (item.Passed p e k) wanted.Barrier = Unit {0}
@@ -233,6 +239,10 @@ IsInside epoch call Fits other = ⊥
 abbrev pub MayReturn : Ledger → Proc → Epoch → CallNo → Item → Type 0
 MayReturn l p e k it = IsInside e.0 k.0 (Answers it) (l.stands p.0) × IsCurrent l e.0
 
+-- a return without an error: all places have entered the call
+abbrev pub Succeeds : Ledger → Proc → Epoch → CallNo → Item → Type 0
+Succeeds l p e k it = MayReturn l p e k it × AllHaveEntered l e k × ReturnsAlike l p e k it
+
 -- the last stamp that the first return of its call closed, or would close now
 abbrev pub IsLastClosed : Ledger → ℕ → GroupId → Stamp → Option Item → Type 0
 IsLastClosed l epoch g t None = t ≡ last_waiting epoch (idents_of (comm_in l epoch)) (l.groups g.0)
@@ -242,6 +252,10 @@ IsLastClosed l epoch g t (Some other) = ⊥
 -- any call may fail
 abbrev pub MayFail : Ledger → Proc → Epoch → CallNo → Type 0
 MayFail l p e k = IsInside e.0 k.0 (λ asked. Unit {0}) (l.stands p.0) × IsCurrent l e.0
+
+-- and one that all places decide together fails for all alike
+abbrev pub Fails : Ledger → Proc → Epoch → CallNo → Item → Type 0
+Fails l p e k it = MayFail l p e k × ReturnsAlike l p e k it
 
 -- ---- ends
 
@@ -307,20 +321,20 @@ May job l (item.Store p e g m list) = MayDo l p e.0 (wanted.Store g m list)
 May job l (item.Commit p e g t) = MayDo l p e.0 (wanted.Commit g) × (t ≡ commit_stamp e.0 (ident_of (l.stands p.0)) (l.groups g.0))
 May job l (item.Restore p e g m t list) = MayDo l p e.0 (wanted.Restore g m t) × (stored_at (l.groups g.0) (ident_of (l.stands p.0)) m t ≡ Some list)
 May job l (item.Refused p e statement g m t why) = IsRefusing e.0 l.groups statement g m t why (l.stands p.0) × IsCurrent l e.0
-May job l (item.Barrier p e k) = MayEnter l p e k wanted.Barrier
-May job l (item.Reduce p e k op n) = MayEnter l p e k (wanted.Reduce op n)
-May job l (item.Agree p e k n) = MayEnter l p e k (wanted.Agree n)
-May job l (item.Shift p e k d list) = MayEnter l p e k (wanted.Shift d list)
-May job l (item.Group p e k g) = (start : Stamp) × (depth : ℕ) × MayEnter l p e k (wanted.Group g start depth)
-May job l (item.Close p e k g) = MayEnter l p e k (wanted.Close g)
-May job l (item.Drop p e k g t) = MayEnter l p e k (wanted.Delete g t)
-May job l (item.Passed p e k) = MayReturn l p e k (item.Passed p e k)
-May job l (item.Value p e k n) = MayReturn l p e k (item.Value p e k n)
-May job l (item.Shifted p e k list) = MayReturn l p e k (item.Shifted p e k list)
-May job l (item.Created p e k g how list) = MayReturn l p e k (item.Created p e k g how list)
-May job l (item.Closed p e k g t) = MayReturn l p e k (item.Closed p e k g t) × IsLastClosed l e.0 g t (first_success l e.0 k.0)
-May job l (item.Failed p e k x) = MayFail l p e k × (has_place (comm_in l e.0) x.0 ≡ true) × (is_killed (l.stands x.0) ≡ true)
-May job l (item.Revoked p e k x) = MayFail l p e k × (has_place (comm_in l e.0) x.0 ≡ true) × (is_some (l.joined (suc e.0) x.0) ≡ true)
+May job l (item.Barrier p e k) = EntersCall l p e k wanted.Barrier
+May job l (item.Reduce p e k op n) = EntersCall l p e k (wanted.Reduce op n)
+May job l (item.Agree p e k n) = EntersCall l p e k (wanted.Agree n)
+May job l (item.Shift p e k d list) = EntersCall l p e k (wanted.Shift d list)
+May job l (item.Group p e k g) = (start : Stamp) × (depth : ℕ) × EntersCall l p e k (wanted.Group g start depth)
+May job l (item.Close p e k g) = EntersCall l p e k (wanted.Close g)
+May job l (item.Drop p e k g t) = EntersCall l p e k (wanted.Delete g t)
+May job l (item.Passed p e k) = Succeeds l p e k (item.Passed p e k)
+May job l (item.Value p e k n) = Succeeds l p e k (item.Value p e k n) × HasValue l p e k n
+May job l (item.Shifted p e k list) = Succeeds l p e k (item.Shifted p e k list) × HasShifted l p e k list
+May job l (item.Created p e k g how list) = Succeeds l p e k (item.Created p e k g how list) × MayFind job l e k g how list
+May job l (item.Closed p e k g t) = Succeeds l p e k (item.Closed p e k g t) × IsLastClosed l e.0 g t (first_success l e.0 k.0)
+May job l (item.Failed p e k x) = Fails l p e k (item.Failed p e k x) × (has_place (comm_in l e.0) x.0 ≡ true) × (is_killed (l.stands x.0) ≡ true)
+May job l (item.Revoked p e k x) = Fails l p e k (item.Revoked p e k x) × (has_place (comm_in l e.0) x.0 ≡ true) × (is_some (l.joined (suc e.0) x.0) ≡ true)
 May job l (item.Ended p) = IsEnding job l (l.stands p.0)
 May job l (item.Send p q message) = ⊥
 May job l (item.Deliver p q message) = ⊥
