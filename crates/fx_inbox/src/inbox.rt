@@ -1,0 +1,236 @@
+ghost use Rattle.std.specs.Prelude.{◌≡◌, ◌≢◌, ◌<◌, ◌≤◌, ℕ, List, Bool, false, All, IfOk, OnOk, OnErr, length};
+ghost use Rattle.std.specs.Option.{option_copied};
+ghost use Rattle.fx_ballot.specs.Names.{seat_of};
+ghost use Rattle.fx_ballot.specs.Turn.{Round, slot_of, speak};
+ghost use Rattle.fx_inbox.specs.Keeping.{IsInboxOf, Knows, senders};
+ghost use Rattle.fx_inbox.specs.declared.phase.Phase.TheVariants as Phase;
+ghost use Rattle.fx_inbox.specs.Turns.{IsTurn, phase_of};
+ghost use Rattle.fx_machine.specs.Messages.{wire_text};
+ghost use Rattle.fx_machine.specs.Nodes.{Node, first_node, is_told, keeping, receives};
+ghost use Rattle.fx_machine.specs.Reading.{estimate_of, next_ballot, turn_in, vote_of};
+ghost use Rattle.fx_machine.specs.Setup.{Setup};
+ghost use Rattle.fx_machine.specs.Texts.{Text};
+
+use crate::ballot::seat_of;
+use crate::estimate::{Measure, first_estimate};
+use crate::phase::Phase;
+use crate::row::Row;
+use crate::vote::first_vote;
+use fx_ballot::Poll;
+use fx_base::{Epoch, NoMemory, Proc, ProcSet};
+use fx_link::{Message, Slot, Slots};
+use std::alloc::Global;
+use std::marker::Model;
+
+/// What a process keeps: the messages that came from each process, its own votes and estimates, and of whose loss it was
+/// told. Each process that is handed in is below the number of processes that it was made for.
+#[derive(Debug, Drop)]
+pub struct Inbox {
+    me: Proc,
+    lost: ProcSet,
+    rows: Vec<Row>,
+}
+
+impl Model for Inbox {
+    ghost use Rattle.fx_inbox.specs.Keeping.{IsOfFew, Kept, kept_code};
+
+    ghost Value = { Kept };
+
+    ghost coded = { kept_code };
+
+    ghost view = { λ b. record { me = b.me.0; lost = b.lost; messages = b.rows.items } };
+
+    ghost invariant = { λ b. IsOfFew (record { me = b.me.0; lost = b.lost; messages = b.rows.items }) };
+}
+
+impl Inbox {
+    /// What process `me` keeps, one of 1 to 32, before anything happens: nothing.
+    pub fn new(alloc: Global, procs: u8, me: Proc) -> Result<Inbox, NoMemory>
+        requires few { procs ≤ 32 }
+        requires one_of_them { me.0 < procs }
+        ensures knows { IfOk result (λ box. (s : Setup) → IsInboxOf (first_node s me.0) box) }
+        ensures of_all { IfOk result (λ box. senders box ≡ procs) }
+    {
+        let mut rows = Vec::new(alloc);
+        for _process in 0..procs {
+            rows.push(Row::new(alloc))?;
+        }
+        Ok(Inbox {
+            me,
+            lost: ProcSet::new(),
+            rows,
+        })
+    }
+
+    /// A message came. One from oneself is never read, and isn't kept. Without memory nothing changes.
+    pub fn receive(&mut self, from: Proc, message: Message) -> Result<(), NoMemory>
+        requires { from.0 < senders self.old }
+        ensures ok { OnOk result ((n : Node) → IsInboxOf n self.old → IsInboxOf (receives from.0 (wire_text message) n) self.new) }
+        ensures no_memory { OnErr result (self.new ≡ self.old) }
+        ensures of_all { senders self.new ≡ senders self.old }
+    {
+        if from == self.me {
+            return Ok(());
+        }
+        self.rows[usize::from(from.0)].push(message)
+    }
+
+    /// Its own vote or estimate counts as heard. Without memory nothing changes.
+    pub fn say(&mut self, message: Message) -> Result<(), NoMemory>
+        requires { self.old.me < senders self.old }
+        ensures ok { OnOk result ((n : Node) → IsInboxOf n self.old → IsInboxOf (keeping (wire_text message) n) self.new) }
+        ensures no_memory { OnErr result (self.new ≡ self.old) }
+        ensures of_all { senders self.new ≡ senders self.old }
+        ensures same { self.new.me ≡ self.old.me }
+    {
+        self.rows[usize::from(self.me.0)].push(message)
+    }
+
+    /// It is told that a process, below 32, is lost. It takes no memory.
+    pub fn lose(&mut self, who: Proc)
+        requires { who.0 < 32 }
+        ensures ok { (n : Node) → IsInboxOf n self.old → IsInboxOf (is_told who.0 n) self.new }
+        ensures of_all { senders self.new ≡ senders self.old }
+        ensures same { self.new.me ≡ self.old.me }
+    {
+        self.lost.insert(who.0);
+    }
+
+    /// Whether it was told that a process, below 32, is lost.
+    pub fn is_lost(&self, who: u8) -> bool
+        requires { who < 32 }
+        ensures { (n : Node) → IsInboxOf n self.now → result ≡ n.lost who }
+    {
+        self.lost.has(who)
+    }
+
+    /// The next epoch has begun: all that is of epochs before it and of its ballot may be forgotten. It takes no memory.
+    pub fn forget(&mut self, epoch: Epoch)
+        ensures ok { (me before calls : ℕ) (lost : ℕ → Bool) (texts : ℕ → List Text) → before < epoch.0 → Knows me before calls lost texts self.old → Knows me epoch.0 0 lost texts self.new }
+        ensures of_all { senders self.new ≡ senders self.old }
+        ensures same { self.new.me ≡ self.old.me }
+    {
+        for row in self.rows.iter_mut() {
+            row.forget(epoch);
+        }
+    }
+
+    /// What a process votes in the ballot of the epoch behind this one, if that was heard. One's own vote counts as it is;
+    /// another's counts where it may be a vote there.
+    pub fn vote_of(&self, epoch: Epoch, who: u8) -> Option<Slot>
+        requires { who < senders self.now }
+        ensures { (n : Node) → IsInboxOf n self.now → n.epoch ≡ epoch.0 → result ≡ vote_of (next_ballot n) n who }
+    {
+        first_vote(
+            self.rows[usize::from(who)].as_slice(),
+            epoch,
+            who == self.me.0,
+        )
+    }
+
+    /// Takes the one turn that is enabled in the ballot of the epoch behind this one, whose members are these in rising
+    /// order, each one of the processes, and says what it did. Fails only without memory.
+    pub fn turn(&self, epoch: Epoch, members: &[u8], phase: &mut Phase) -> Result<Poll, NoMemory>
+        requires few { length members.now ≤ 32 }
+        requires known { All (λ q. q < senders self.now) members.now }
+        ensures { IfOk result (λ said. (n : Node) → IsInboxOf n self.now → n.epoch ≡ epoch.0 → n.present ≡ members.now
+            → IsTurn (turn_in (next_ballot n) n (phase_of phase.old)) said phase.new) }
+    {
+        match phase {
+            Phase::Voting => self.form(epoch, members, phase),
+            Phase::Round(round, held) => {
+                if usize::from(*round) >= members.len() {
+                    Ok(Poll::Decided(held.copy()?))
+                } else if *round == seat_of(members, self.me.0) {
+                    speak(round, held)
+                } else {
+                    self.follow(epoch, members, round, held)
+                }
+            }
+        }
+    }
+
+    // With the slots of all members known they are its estimate, and round 0 is next.
+    fn form(&self, epoch: Epoch, members: &[u8], phase: &mut Phase) -> Result<Poll, NoMemory>
+        requires few { length members.now ≤ 32 }
+        requires known { All (λ q. q < senders self.now) members.now }
+        requires voting { phase.old ≡ Phase.Voting }
+        ensures { IfOk result (λ said. (n : Node) → IsInboxOf n self.now → n.epoch ≡ epoch.0 → n.present ≡ members.now
+            → IsTurn (turn_in (next_ballot n) n (phase_of phase.old)) said phase.new) }
+    {
+        let mut slots = Slots::new(*self.rows.allocator());
+        for member in members {
+            match self.slot_of(epoch, *member) {
+                Some(slot) => slots.push(slot)?,
+                None => return Ok(Poll::NotYet),
+            }
+        }
+        *phase = Phase::Round(0, slots);
+        Ok(Poll::Moved)
+    }
+
+    // The slot of a member: its vote, else `Lost` where it was told of that; `None` where neither is known.
+    fn slot_of(&self, epoch: Epoch, who: u8) -> Option<Slot>
+        requires { who < senders self.now }
+        ensures { (n : Node) → IsInboxOf n self.now → n.epoch ≡ epoch.0 → result ≡ slot_of (vote_of (next_ballot n) n who) (n.lost who) false }
+    {
+        match self.vote_of(epoch, who) {
+            Some(slot) => Some(slot),
+            None if self.lost.has(who) => Some(Slot::Lost),
+            None => None,
+        }
+    }
+
+    // In another's round it adopts that member's estimate where one that fits was heard; else it
+    // passes the round where that member is lost.
+    fn follow(
+        &self,
+        epoch: Epoch,
+        members: &[u8],
+        round: &mut u8,
+        held: &mut Slots,
+    ) -> Result<Poll, NoMemory>
+        requires few { length members.now ≤ 32 }
+        requires known { All (λ q. q < senders self.now) members.now }
+        requires below { round.old < length members.now }
+        requires of_another { round.old ≢ seat_of members.now self.now.me }
+        ensures { IfOk result (λ said. (n : Node) → IsInboxOf n self.now → n.epoch ≡ epoch.0 → n.present ≡ members.now
+            → IsTurn (turn_in (next_ballot n) n (Round round.old held.old)) said (Phase.Round round.new held.new)) }
+    {
+        let who = members[usize::from(*round)];
+        match self.estimate_of(epoch, members, who) {
+            Some(slots) => *held = slots.copy()?,
+            None if self.lost.has(who) => {}
+            None => return Ok(Poll::NotYet),
+        }
+        *round += 1;
+        Ok(Poll::Moved)
+    }
+
+    // The estimate of a member that was heard, of the round of its seat. One's own counts as it is,
+    // another's where it fits.
+    fn estimate_of(&self, epoch: Epoch, members: &[u8], who: u8) -> Option<&Slots>
+        requires few { length members.now ≤ 32 }
+        requires known { who < senders self.now }
+        ensures { (n : Node) → IsInboxOf n self.now → n.epoch ≡ epoch.0 → n.present ≡ members.now → option_copied result ≡ estimate_of (next_ballot n) n who }
+    {
+        let measure = Measure {
+            epoch,
+            members: members.len(),
+            seat: seat_of(members, self.me.0),
+            vote: self.vote_of(epoch, self.me.0),
+        };
+        let messages = self.rows[usize::from(who)].as_slice();
+        first_estimate(messages, seat_of(members, who), who == self.me.0, &measure)
+    }
+}
+
+// In its own round it says its estimate, and passes the round.
+fn speak(round: &mut u8, held: &Slots) -> Result<Poll, NoMemory>
+    requires { round.old < 32 }
+    ensures { IfOk result (λ said. IsTurn (speak round.old held.now) said (Phase.Round round.new held.now)) }
+{
+    let said = held.copy()?;
+    *round += 1;
+    Ok(Poll::SendEstimate(said))
+}

@@ -1,0 +1,121 @@
+ghost use Rattle.std.specs.Prelude.{◌≡◌, IfOk};
+ghost use Rattle.fx_inbox.specs.Keeping.{senders};
+
+use super::*;
+use fx_base::{Epoch, NoMemory, Proc};
+use fx_link::{Message, Slot, Slots};
+use std::test::Fail;
+
+fn join(e: u32, kind: Slot) -> Message {
+    Message::Join { e: Epoch(e), kind }
+}
+
+/// The slots of three members, of which the first voted `final`.
+fn slots(rt: &HostRuntime, second: Slot, third: Slot) -> Result<Slots, NoMemory> {
+    let mut slots = Slots::new(rt.alloc());
+    slots.push(Slot::Final)?;
+    slots.push(second)?;
+    slots.push(third)?;
+    Ok(slots)
+}
+
+/// What the second of three processes keeps that voted `error` in the ballot of epoch 3.
+fn voter(rt: &HostRuntime) -> Result<Inbox, NoMemory>
+    ensures { IfOk result (λ box. senders box ≡ 3) }
+{
+    let mut inbox = Inbox::new(rt.alloc(), 3, Proc(1))?;
+    inbox.say(join(3, Slot::Error))?;
+    Ok(inbox)
+}
+
+/// A message came from the first process.
+fn hear(inbox: &mut Inbox, message: Message) -> Result<(), NoMemory>
+    requires { senders inbox.old ≡ 3 }
+    ensures { senders inbox.new ≡ 3 }
+{
+    inbox.receive(Proc(0), message)
+}
+
+fn estimate(e: u32, r: u8, slots: Slots) -> Message {
+    let e = Epoch(e);
+    Message::Jest { e, r, slots }
+}
+
+/// Whether the turn of the second of three is this one.
+fn takes(inbox: &Inbox, phase: &mut Phase, wanted: Poll) -> Result<bool, NoMemory>
+    requires { senders inbox.now ≡ 3 }
+{
+    Ok(inbox.turn(Epoch(2), &[0, 1, 2], phase)? == wanted)
+}
+
+#[test]
+fn the_first_vote_and_a_loss_make_an_estimate(rt: HostRuntime) -> Result<(), Fail> {
+    let mut inbox = voter(&rt)?;
+    let mut phase = Phase::Voting;
+    hear(&mut inbox, join(2, Slot::Spare))?;
+    hear(&mut inbox, join(3, Slot::Start))?;
+    inbox.lose(Proc(2));
+    assert!(rt; takes(&inbox, &mut phase, Poll::NotYet)?);
+    hear(&mut inbox, join(3, Slot::Final))?;
+    hear(&mut inbox, join(3, Slot::Spare))?;
+    assert_eq!(rt; inbox.vote_of(Epoch(2), 0), Some(Slot::Final));
+    assert!(rt; inbox.is_lost(2) && !inbox.is_lost(0));
+    assert!(rt; takes(&inbox, &mut phase, Poll::Moved)?);
+    let wanted = slots(&rt, Slot::Error, Slot::Lost)?;
+    assert!(rt; matches!(&phase, Phase::Round(0, held) if *held == wanted));
+    Ok(())
+}
+
+#[test]
+fn the_second_adopts_speaks_and_decides(rt: HostRuntime) -> Result<(), Fail> {
+    let mut inbox = voter(&rt)?;
+    inbox.lose(Proc(2));
+    let mut phase = Phase::Round(0, slots(&rt, Slot::Error, Slot::Lost)?);
+    let other_vote = slots(&rt, Slot::Spare, Slot::Error)?;
+    hear(&mut inbox, estimate(3, 0, other_vote))?;
+    let other_round = slots(&rt, Slot::Error, Slot::Error)?;
+    hear(&mut inbox, estimate(3, 1, other_round))?;
+    assert!(rt; takes(&inbox, &mut phase, Poll::NotYet)?);
+    let fitting = slots(&rt, Slot::Error, Slot::Error)?;
+    hear(&mut inbox, estimate(3, 0, fitting))?;
+    assert!(rt; takes(&inbox, &mut phase, Poll::Moved)?);
+    let all = slots(&rt, Slot::Error, Slot::Error)?;
+    assert!(rt; takes(&inbox, &mut phase, Poll::SendEstimate(all))?);
+    assert!(rt; takes(&inbox, &mut phase, Poll::Moved)?);
+    let all = slots(&rt, Slot::Error, Slot::Error)?;
+    assert!(rt; takes(&inbox, &mut phase, Poll::Decided(all))?);
+    Ok(())
+}
+
+#[test]
+fn what_is_of_a_later_epoch_is_kept(rt: HostRuntime) -> Result<(), Fail> {
+    let mut inbox = Inbox::new(rt.alloc(), 2, Proc(0))?;
+    inbox.receive(Proc(1), join(1, Slot::Start))?;
+    inbox.receive(Proc(1), join(2, Slot::Error))?;
+    inbox.receive(Proc(1), join(3, Slot::Final))?;
+    assert_eq!(rt; inbox.vote_of(Epoch(0), 1), Some(Slot::Start));
+    inbox.forget(Epoch(1));
+    assert_eq!(rt; inbox.vote_of(Epoch(0), 1), None);
+    assert_eq!(rt; inbox.vote_of(Epoch(1), 1), Some(Slot::Error));
+    assert_eq!(rt; inbox.vote_of(Epoch(2), 1), Some(Slot::Final));
+    inbox.receive(Proc(0), join(2, Slot::Error))?;
+    assert_eq!(rt; inbox.vote_of(Epoch(1), 0), None);
+    Ok(())
+}
+
+#[test]
+fn seats_and_joins(rt: HostRuntime) {
+    for (who, seat) in [(4, 0), (9, 1), (31, 2), (5, 3)] {
+        assert_eq!(rt; seat_of(&[4, 9, 31], who), seat, "{who}");
+    }
+    for (slot, first, later) in [
+        (Slot::Start, true, false),
+        (Slot::Spare, false, true),
+        (Slot::Error, false, true),
+        (Slot::Final, false, true),
+        (Slot::Yes, false, false),
+        (Slot::Lost, false, false),
+    ] {
+        assert!(rt; is_join(Epoch(0), slot) == first && is_join(Epoch(1), slot) == later);
+    }
+}
