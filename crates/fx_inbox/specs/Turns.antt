@@ -11,7 +11,7 @@ abbrev pub phase_of : Phase → ballot.Phase
 phase_of phase.Voting = ballot.Voting
 phase_of (phase.Round round slots) = ballot.Round round slots
 
--- where the member stands behind the turn; a ballot that is decided is left
+-- where the member stands behind the turn; a ballot that is decided is over
 abbrev pub Leaves : Poll → ballot.Phase → Phase → Type 0
 Leaves (poll.Decided slots) next after = Unit {0}
 Leaves poll.NotYet next after = phase_of after ≡ next
@@ -22,3 +22,10 @@ Leaves (poll.SendEstimate slots) next after = phase_of after ≡ next
 pub record IsTurn (t : ballot.Turn) (said : Poll) (after : Phase) : Type 0 where
   pub says : said ≡ t.poll
   pub leaves : Leaves said t.phase after
+
+-- a turn that waits, and one that decides, leave the phase as it was
+abbrev pub Stays : Poll → Phase → Phase → Type 0
+Stays poll.NotYet before after = after ≡ before
+Stays poll.Moved before after = Unit {0}
+Stays (poll.SendEstimate slots) before after = Unit {0}
+Stays (poll.Decided slots) before after = after ≡ before

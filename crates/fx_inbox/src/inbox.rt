@@ -4,7 +4,7 @@ ghost use Rattle.fx_ballot.specs.Names.{seat_of};
 ghost use Rattle.fx_ballot.specs.Turn.{Round, slot_of, speak};
 ghost use Rattle.fx_inbox.specs.Keeping.{IsInboxOf, Knows, senders};
 ghost use Rattle.fx_inbox.specs.declared.phase.Phase.TheVariants as Phase;
-ghost use Rattle.fx_inbox.specs.Turns.{IsTurn, phase_of};
+ghost use Rattle.fx_inbox.specs.Turns.{IsTurn, Stays, phase_of};
 ghost use Rattle.fx_machine.specs.Messages.{wire_text};
 ghost use Rattle.fx_machine.specs.Nodes.{Node, first_node, is_told, keeping, receives};
 ghost use Rattle.fx_machine.specs.Reading.{estimate_of, next_ballot, turn_in, vote_of};
@@ -133,8 +133,9 @@ impl Inbox {
     pub fn turn(&self, epoch: Epoch, members: &[u8], phase: &mut Phase) -> Result<Poll, NoMemory>
         requires few { length members.now ≤ 32 }
         requires known { All (λ q. q < senders self.now) members.now }
-        ensures { IfOk result (λ said. (n : Node) → IsInboxOf n self.now → n.epoch ≡ epoch.0 → n.present ≡ members.now
+        ensures takes { IfOk result (λ said. (n : Node) → IsInboxOf n self.now → n.epoch ≡ epoch.0 → n.present ≡ members.now
             → IsTurn (turn_in (next_ballot n) n (phase_of phase.old)) said phase.new) }
+        ensures stays { IfOk result (λ said. Stays said phase.old phase.new) }
     {
         match phase {
             Phase::Voting => self.form(epoch, members, phase),
@@ -155,7 +156,8 @@ impl Inbox {
         requires few { length members.now ≤ 32 }
         requires known { All (λ q. q < senders self.now) members.now }
         requires voting { phase.old ≡ Phase.Voting }
-        ensures { IfOk result (λ said. (n : Node) → IsInboxOf n self.now → n.epoch ≡ epoch.0 → n.present ≡ members.now
+        ensures stays { IfOk result (λ said. Stays said phase.old phase.new) }
+        ensures takes { IfOk result (λ said. (n : Node) → IsInboxOf n self.now → n.epoch ≡ epoch.0 → n.present ≡ members.now
             → IsTurn (turn_in (next_ballot n) n (phase_of phase.old)) said phase.new) }
     {
         let mut slots = Slots::new(*self.rows.allocator());
@@ -194,7 +196,8 @@ impl Inbox {
         requires known { All (λ q. q < senders self.now) members.now }
         requires below { round.old < length members.now }
         requires of_another { round.old ≢ seat_of members.now self.now.me }
-        ensures { IfOk result (λ said. (n : Node) → IsInboxOf n self.now → n.epoch ≡ epoch.0 → n.present ≡ members.now
+        ensures stays { IfOk result (λ said. Stays said (Phase.Round round.old held.old) (Phase.Round round.new held.new)) }
+        ensures takes { IfOk result (λ said. (n : Node) → IsInboxOf n self.now → n.epoch ≡ epoch.0 → n.present ≡ members.now
             → IsTurn (turn_in (next_ballot n) n (Round round.old held.old)) said (Phase.Round round.new held.new)) }
     {
         let who = members[usize::from(*round)];
@@ -228,7 +231,8 @@ impl Inbox {
 // In its own round it says its estimate, and passes the round.
 fn speak(round: &mut u8, held: &Slots) -> Result<Poll, NoMemory>
     requires { round.old < 32 }
-    ensures { IfOk result (λ said. IsTurn (speak round.old held.now) said (Phase.Round round.new held.now)) }
+    ensures stays { IfOk result (λ said. Stays said (Phase.Round round.old held.now) (Phase.Round round.new held.now)) }
+    ensures takes { IfOk result (λ said. IsTurn (speak round.old held.now) said (Phase.Round round.new held.now)) }
 {
     let said = held.copy()?;
     *round += 1;
