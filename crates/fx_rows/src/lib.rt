@@ -1,4 +1,5 @@
-//! Worked rows, as tests: of the whole program, of the texts of jobs, and of the jobs that are accepted.
+//! Worked rows, as tests: of the whole program, of the texts of jobs, of the jobs that are accepted, and of the lines of
+//! journals.
 #![tactic(auto)]
 
 #[cfg(test)]
@@ -7,6 +8,8 @@ mod acceptance;
 mod bodies;
 #[cfg(test)]
 mod calls;
+#[cfg(test)]
+mod lines;
 #[cfg(test)]
 mod schedules;
 #[cfg(test)]

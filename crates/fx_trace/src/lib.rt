@@ -19,6 +19,3 @@ pub use fx_lines::ItemFault;
 pub use print::print_item;
 pub use read::ReadItem;
 pub use reader::read_item;
-
-#[cfg(test)]
-mod tests;

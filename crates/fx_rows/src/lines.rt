@@ -1,5 +1,7 @@
-use super::*;
+//! Lines of a journal that are read and printed again, and lines that are refused.
+
 use fx_base::{Bytes, NoMemory};
+use fx_trace::{ItemFault, ReadItem, print_item, read_item};
 use std::alloc::Global;
 use std::test::Fail;
 
