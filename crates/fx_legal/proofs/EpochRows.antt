@@ -16,7 +16,7 @@ use Rattle.fx_legal.specs.Groups.{at_key}
 use Rattle.fx_legal.specs.Ledger.{Ledger, first_ledger, comm_in, is_present}
 use Rattle.fx_legal.specs.Legal.{HasKilledAll, IsLegalWhole, written_all, ledger_of}
 use Rattle.fx_legal.specs.Rules.{Begins, MayEnd}
-use Rattle.fx_legal.specs.Stands.{Callback, Spare, Opening, Walking, Ended, is_killed}
+use Rattle.fx_legal.specs.Stands.{Callback, Joined, Spare, Opening, Walking, Ended, is_killed}
 use Rattle.fx_legal.proofs.Words.{Accepts, Refuses, not_both, apart, pair, alone_pair, two, nothing, proc, epoch, full, two_and_spares, stay_of, walking, standing, done, asks, kill, join, repaired, barrier, failed, revoked, ended}
 
 -- a process below 2 is 0 or 1
@@ -227,6 +227,14 @@ loses_two = pair (pos 1) (1 ∷ 2 ∷ [])
 not_unjoined : Refuses loses_two (first_ledger loses_two) (join 0 1 slot.Start ∷ kill 1 ∷ kill 2 ∷ []) (repaired 0 1 2 full (seat 0 0 ∷ seat 1 2 ∷ []))
 not_unjoined may = not_both (sym (may.1.one.seated 2 refl).1)
 
+-- nor in an epoch behind which the next has begun
+
+abbrev begun : Ledger → Ledger
+begun l = record l { chapters = at_key 2 (Some (two_and_spares alone_pair)) l.chapters }
+
+not_in_the_past : Refuses alone_pair (begun (standing alone_pair (λ p. Joined 1 nothing))) [] (repaired 1 1 2 full two)
+not_in_the_past may = apart is_none None (Some _) refl refl (sym may.1.current)
+
 -- the second carries what the first one did
 
 repaired_too : Accepts alone_pair (first_ledger alone_pair) (join 0 1 slot.Start ∷ join 1 1 slot.Start ∷ repaired 1 1 2 full two ∷ []) (repaired 0 1 2 full two)
@@ -265,6 +273,9 @@ not_into_size_3 may = apart (λ n. n == 3) 3 2 refl refl may.1.sized.0
 
 not_into_a_warning : Refuses alone_pair (first_ledger alone_pair) both_repaired (init_of 2 true 1 role.Initial 1 1)
 not_into_a_warning may = not_both may.1.sized.1
+
+not_returned_in_the_past : Refuses alone_pair (begun (standing alone_pair (λ p. Opening 1 [] nothing))) [] (init 1 role.Initial 1 1)
+not_returned_in_the_past may = apart is_none None (Some _) refl refl (sym may.1.current)
 
 not_as_survivor : Refuses alone_pair (first_ledger alone_pair) both_repaired (init 1 role.Survivor 1 1)
 not_as_survivor may = apart is_survivor role.Survivor role.Initial refl refl may.1.named
@@ -319,7 +330,7 @@ not_at_first : Refuses alone_pair (first_ledger alone_pair) both_joined (ended 0
 not_at_first may = absurd (omega (arith, may.1.late))
 
 -- nor where the epoch has begun
-not_once_begun : Refuses alone_pair (record both_done { chapters = at_key 2 (Some (two_and_spares alone_pair)) both_done.chapters }) both_final (ended 0)
+not_once_begun : Refuses alone_pair (begun both_done) both_final (ended 0)
 not_once_begun may = apart is_none None (Some _) refl refl (sym may.1.unbegun)
 
 -- ---- what stands in no journal
