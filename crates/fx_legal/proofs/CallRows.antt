@@ -17,7 +17,7 @@ use Rattle.fx_walk.specs.Walk.{Walk, Asks, stamp_at}
 use Rattle.fx_legal.specs.Groups.{unborn, at_key}
 use Rattle.fx_legal.specs.Ledger.{Chapter, Ledger, first_ledger}
 use Rattle.fx_legal.specs.Stands.{Spare, Walking}
-use Rattle.fx_legal.proofs.Words.{Accepts, Refuses, not_both, apart, proc, epoch, call, group_0, here, nothing, pair, alone_pair, two_and_spares, standing, stay_of, walking, done, asks, kill, join, barrier, reduce, agree, shift, group, close, drop, passed, value, shifted, failed, revoked}
+use Rattle.fx_legal.proofs.Words.{Accepts, Refuses, not_both, apart, proc, epoch, call, group_0, group_1, here, nothing, pair, alone_pair, two_and_spares, standing, stay_of, walking, done, asks, kill, join, barrier, reduce, agree, shift, group, close, drop, passed, value, shifted, failed, revoked}
 
 -- rank 0 asks the one thing, rank 1 the other
 abbrev each : Wanted → Wanted → ℕ → Walk
@@ -88,9 +88,6 @@ enters_shift : Accepts alone_pair (asking (wanted.Shift 1 (pos 10 ∷ [])) (want
 enters_shift = (omega arith, ((record { asks = (refl, refl); granted = refl; current = refl }, refl), (refl, (tt, tt))))
 
 -- ---- entries of groups
-
-abbrev group_1 : GroupId
-group_1 = record { 0 = 1 }
 
 -- a creation of the group, from this stamp on
 abbrev creates : GroupId → ℤ → Wanted

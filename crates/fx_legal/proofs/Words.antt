@@ -56,6 +56,9 @@ call k = record { 0 = k }
 abbrev pub group_0 : GroupId
 group_0 = record { 0 = 0 }
 
+abbrev pub group_1 : GroupId
+group_1 = record { 0 = 1 }
+
 abbrev pub member_0 : MemberId
 member_0 = record { 0 = 0 }
 
