@@ -1,10 +1,11 @@
 -- Rows of what a process shows and answers by itself, and of closings and deletions.
-use Rattle.std.proofs.Common.{◌≡◌, ℕ, Bool, true, false, not, ◌==◌, List, [], ◌∷◌, get_or, map, Some, None, is_some, nat_cmp, refl, ap, sym, ◌∙◌, arith}
+use Rattle.std.proofs.Common.{◌≡◌, ℕ, Bool, true, false, not, ◌==◌, List, [], ◌∷◌, ◌++◌, get_or, map, Some, None, is_some, nat_cmp, refl, ap, sym, ◌∙◌, arith}
 use Rattle.std.specs.Prelude.{Option, is_none, cond, ℤ, pos, codes}
 use Rattle.std.specs.Ordering.{int_eq}
 use Rattle.std.specs.FinMap.{get-empty, get-insert}
 use Rattle.std.specs.FinMap as finite
 use Rattle.std.specs.Cmp.{nat_cmp_total}
+use Rattle.fx_base.specs.declared.names.GroupId.{GroupId}
 use Rattle.fx_base.specs.Keys.{by_number, by_number_total}
 use Rattle.fx_store.specs.Store.{Stamped}
 use Rattle.fx_base.specs.declared.names.Stamp.{Stamp}
@@ -19,11 +20,12 @@ use Rattle.fx_item.specs.declared.item.Item.TheVariants as item
 use Rattle.fx_walk.specs.declared.wanted.Wanted.{Wanted}
 use Rattle.fx_walk.specs.declared.wanted.Wanted.TheVariants as wanted
 use Rattle.fx_walk.specs.Walk.{Prints, stamp_at}
-use Rattle.fx_legal.specs.Groups.{Group, unborn}
+use Rattle.fx_legal.specs.Groups.{Group, unborn, at_key}
 use Rattle.fx_legal.specs.Ledger.{Ledger}
+use Rattle.fx_legal.specs.Legal.{written_all}
 use Rattle.fx_legal.specs.Rules.{stored_at}
-use Rattle.fx_legal.specs.Stands.{Note, Callback, Print, Opening}
-use Rattle.fx_legal.proofs.Words.{Accepts, Refuses, not_both, apart, alone_pair, proc, epoch, call, group_0, member_0, standing, walking, walking_with, nothing, done, asks, close, drop, passed, closed}
+use Rattle.fx_legal.specs.Stands.{Note, Callback, Print, Opening, Walking}
+use Rattle.fx_legal.proofs.Words.{Accepts, Refuses, not_both, apart, alone_pair, proc, epoch, call, group_0, group_1, member_0, standing, stay_of, walking, walking_with, nothing, done, asks, close, drop, passed, closed}
 
 -- ---- what is shown
 
@@ -111,9 +113,15 @@ refused_commit = refused_for_all refusable.Commit
 abbrev creates : Wanted
 creates = wanted.Group group_0 (stamp_at (pos 0)) 0
 
--- 16 snapshots with nothing in them
+-- 15 snapshots with nothing in them, and 16
+abbrev empty_at : ℕ → Stamped
+empty_at t = (stamp_at (pos t), finite.empty)
+
+abbrev fifteen : List Stamped
+fifteen = map empty_at (0 ∷ 1 ∷ 2 ∷ 3 ∷ 4 ∷ 5 ∷ 6 ∷ 7 ∷ 8 ∷ 9 ∷ 10 ∷ 11 ∷ 12 ∷ 13 ∷ 14 ∷ [])
+
 abbrev sixteen : List Stamped
-sixteen = map (λ t. (stamp_at (pos t), finite.empty)) (0 ∷ 1 ∷ 2 ∷ 3 ∷ 4 ∷ 5 ∷ 6 ∷ 7 ∷ 8 ∷ 9 ∷ 10 ∷ 11 ∷ 12 ∷ 13 ∷ 14 ∷ 15 ∷ [])
+sixteen = fifteen ++ empty_at 15 ∷ []
 
 abbrev wants : Wanted → Ledger
 wants wanted = walking alone_pair (λ p. asks wanted)
@@ -153,6 +161,24 @@ stores = (omega arith, record { asks = (refl, refl); granted = refl; current = r
 not_stored : Refuses alone_pair (wants (wanted.Store group_0 member_0 three_at_0)) [] (store three_at_0)
 not_stored may = apart is_some (Some answer.NotCreated) None refl refl may.1.granted
 
+refuses_store : Accepts alone_pair (wants (wanted.Store group_0 member_0 three_at_0)) [] (refused refusable.Store (pos 0) answer.NotCreated)
+refuses_store = (omega arith, ((refl, (refl, refl, refl), refl), refl))
+
+-- nothing is stored of a member that wasn't attached, and of one that was it isn't refused
+
+-- where the group is created and no member is attached
+abbrev wants_unattached : Wanted → Ledger
+wants_unattached wanted = standing alone_pair (λ p. Walking (record (stay_of p) { has_created = λ g. g == 0 }) (asks wanted))
+
+refuses_unattached : Accepts alone_pair (wants_unattached (wanted.Store group_0 member_0 three_at_0)) [] (refused refusable.Store (pos 0) answer.NotAttached)
+refuses_unattached = (omega arith, ((refl, (refl, refl, refl), refl), refl))
+
+not_stored_unattached : Refuses alone_pair (wants_unattached (wanted.Store group_0 member_0 three_at_0)) [] (store three_at_0)
+not_stored_unattached may = apart is_some (Some answer.NotAttached) None refl refl may.1.granted
+
+not_refused_attached : Refuses alone_pair (wants_with (wanted.Store group_0 member_0 three_at_0)) [] (refused refusable.Store (pos 0) answer.NotAttached)
+not_refused_attached may = apart is_none None (Some answer.NotAttached) refl refl may.1.0.2
+
 -- what isn't asked isn't answered
 not_asked : Refuses alone_pair (wants_with (wanted.Commit group_0)) [] attach
 not_asked may = apart is_commit (wanted.Commit group_0) (wanted.Attach group_0 member_0) refl refl may.1.asks.1
@@ -175,16 +201,22 @@ refuses_closing = (omega arith, ((refl, (refl, refl, refl), refl), refl))
 not_closed : Refuses alone_pair (wants (wanted.Close group_0)) [] (close 0 1)
 not_closed may = apart is_none None (Some _) refl refl (sym may.1.0.0.granted)
 
--- where 16 wait no more is committed
+-- where 16 wait no more is committed, and where 15 wait one is
 
-abbrev sixteen_wait : Ledger
-sixteen_wait = record (wants_with (wanted.Commit group_0)) { groups = λ g. record unborn { tentative = λ e ident. sixteen } }
+abbrev waiting : List Stamped → Ledger
+waiting snapshots = record (wants_with (wanted.Commit group_0)) { groups = λ g. record unborn { tentative = λ e ident. snapshots } }
 
-refuses_commit : Accepts alone_pair sixteen_wait [] (refused_commit answer.Full)
+refuses_commit : Accepts alone_pair (waiting sixteen) [] (refused_commit answer.Full)
 refuses_commit = (omega arith, ((refl, (refl, refl, refl), refl), refl))
 
-not_full : Refuses alone_pair (wants_with (wanted.Commit group_0)) [] (refused_commit answer.Full)
+not_a_seventeenth : Refuses alone_pair (waiting sixteen) [] (commit (pos 16))
+not_a_seventeenth may = apart is_none None (Some _) refl refl (sym may.1.0.granted)
+
+not_full : Refuses alone_pair (waiting fifteen) [] (refused_commit answer.Full)
 not_full may = apart is_none None (Some _) refl refl may.1.0.2
+
+commits_a_sixteenth : Accepts alone_pair (waiting fifteen) [] (commit (pos 15))
+commits_a_sixteenth = (omega arith, (record { asks = (refl, refl); granted = refl; current = refl }, refl))
 
 abbrev is_1 : Stamp → Bool
 is_1 stamp = int_eq stamp.0 (pos 1)
@@ -215,6 +247,17 @@ not_at_another may = apart is_1 (stamp_at (pos 1)) (stamp_at (pos 0)) refl refl 
 
 closes_too : Accepts alone_pair closing (close 0 1 ∷ close 1 1 ∷ closed 0 1 (pos 0) ∷ []) (closed 1 1 (pos 0))
 closes_too = (omega arith, ((((refl, refl, refl), refl), (refl, (refl, tt)), (refl, refl)), refl))
+
+not_at_another_then : Refuses alone_pair closing (close 0 1 ∷ close 1 1 ∷ closed 0 1 (pos 0) ∷ []) (closed 1 1 (pos 1))
+not_at_another_then may = apart is_1 (stamp_at (pos 1)) (stamp_at (pos 0)) refl refl may.1.1
+
+-- nor is another group closed, though its last stamp is 0 too
+
+abbrev closing_beside : Ledger
+closing_beside = record closing { groups = at_key 1 (record unborn { next = stamp_at (pos 1) }) closing.groups }
+
+not_group_1 : Refuses alone_pair closing_beside both_close (item.Closed (proc 0) (epoch 1) (call 1) group_1 (stamp_at (pos 0)))
+not_group_1 may = apart (λ (g : GroupId). g.0 == 1) group_1 group_0 refl refl may.1.0.0.0.2
 
 -- at stamp 0 each identity stored 3 at index 0 of the member: that is restored, and nothing else
 
@@ -265,13 +308,48 @@ not_no_stamp : Refuses alone_pair (with_data (wanted.Restore group_0 member_0 (s
 not_no_stamp may =
     apart is_none None (Some answer.NoStamp) refl refl (sym (ap (λ entry. cond (not (is_some entry)) (Some answer.NotStored) None) three_is_there) ∙ may.1.0.2)
 
--- both delete stamp 0, and it is gone for both
+-- both delete stamp 0: with the first return it is gone for both
+
+abbrev deletes : ℤ → Wanted
+deletes t = wanted.Delete group_0 (stamp_at t)
 
 abbrev deleting : Ledger
-deleting = with_data (wanted.Delete group_0 (stamp_at (pos 0)))
+deleting = with_data (deletes (pos 0))
 
-deletes : Accepts alone_pair deleting (drop 0 1 (pos 0) ∷ drop 1 1 (pos 0) ∷ []) (passed 0 1)
-deletes = (omega arith, (((refl, refl, tt), refl), (refl, (refl, tt)), tt))
+abbrev both_delete : List Item
+both_delete = drop 0 1 (pos 0) ∷ drop 1 1 (pos 0) ∷ []
+
+abbrev one_deleted : List Item
+one_deleted = drop 0 1 (pos 0) ∷ drop 1 1 (pos 0) ∷ passed 0 1 ∷ []
+
+passes : Accepts alone_pair deleting both_delete (passed 0 1)
+passes = (omega arith, (((refl, refl, tt), refl), (refl, (refl, tt)), tt))
+
+passes_too : Accepts alone_pair deleting one_deleted (passed 1 1)
+passes_too = (omega arith, (((refl, refl, tt), refl), (refl, (refl, tt)), tt))
+
+abbrev deleted : Group
+deleted = (written_all alone_pair deleting one_deleted).groups 0
+
+stamp_is_gone : deleted.stamps ≡ []
+stamp_is_gone = refl
+
+data_is_gone : (ident : ℕ) → deleted.closed ident ≡ []
+data_is_gone ident = refl
+
+not_gone_before : ((written_all alone_pair deleting both_delete).groups 0).stamps ≡ stamp_at (pos 0) ∷ []
+not_gone_before = refl
 
 not_before_all_ask : Refuses alone_pair deleting (drop 0 1 (pos 0) ∷ []) (passed 0 1)
 not_before_all_ask may = not_both (sym may.1.1.1.0)
+
+-- what isn't retained isn't deleted, nor is anything of a group that wasn't created
+
+refuses_deletion : Accepts alone_pair (with_data (deletes (pos 1))) [] (refused refusable.Drop (pos 1) answer.NoStamp)
+refuses_deletion = (omega arith, ((refl, (refl, refl, refl), refl), refl))
+
+not_deleted : Refuses alone_pair (with_data (deletes (pos 1))) [] (drop 0 1 (pos 1))
+not_deleted may = apart is_none None (Some _) refl refl (sym may.1.0.0.granted)
+
+refuses_uncreated : Accepts alone_pair (wants (deletes (pos 0))) [] (refused refusable.Drop (pos 0) answer.NotCreated)
+refuses_uncreated = (omega arith, ((refl, (refl, refl, refl), refl), refl))

@@ -1,6 +1,6 @@
 -- Rows of losses, joins, the begin of epochs and ends, and the whole journal of two ranks that have nothing to do.
 use Rattle.std.proofs.Common.{◌≡◌, ◌<◌, inl, inr, ℕ, zero, suc, Bool, true, false, ◌||◌, ◌&&◌, ◌==◌, List, [], ◌∷◌, Some, None, is_some, refl, ap, sym, arith}
-use Rattle.std.specs.Prelude.{pos, if◌then◌else◌, is_none, nat_lt}
+use Rattle.std.specs.Prelude.{Option, pos, codes, if◌then◌else◌, is_none, nat_lt}
 use Rattle.fx_base.specs.Sets.{those_below}
 use Rattle.fx_base.specs.declared.names.Role.{Role}
 use Rattle.fx_base.specs.declared.names.Role.TheVariants as role
@@ -11,11 +11,13 @@ use Rattle.fx_link.specs.declared.slot.Slot.{Slot}
 use Rattle.fx_link.specs.declared.slot.Slot.TheVariants as slot
 use Rattle.fx_script.specs.declared.job.Job.{Job}
 use Rattle.fx_walk.specs.declared.wanted.Wanted.TheVariants as wanted
+use Rattle.fx_walk.specs.Walk.{Walk}
+use Rattle.fx_legal.specs.Groups.{at_key}
 use Rattle.fx_legal.specs.Ledger.{Ledger, first_ledger, comm_in, is_present}
 use Rattle.fx_legal.specs.Legal.{HasKilledAll, IsLegalWhole, written_all, ledger_of}
 use Rattle.fx_legal.specs.Rules.{Begins, MayEnd}
-use Rattle.fx_legal.specs.Stands.{Stand, Spare, Failed, Ended, is_killed}
-use Rattle.fx_legal.proofs.Words.{Accepts, Refuses, not_both, apart, pair, alone_pair, two, nothing, proc, epoch, full, walking, standing, done, asks, kill, join, repaired, barrier, failed, ended}
+use Rattle.fx_legal.specs.Stands.{Callback, Joined, Spare, Opening, Walking, Ended, is_killed}
+use Rattle.fx_legal.proofs.Words.{Accepts, Refuses, not_both, apart, pair, alone_pair, two, nothing, proc, epoch, full, two_and_spares, stay_of, walking, standing, done, asks, kill, join, repaired, barrier, failed, revoked, ended}
 
 -- a process below 2 is 0 or 1
 
@@ -59,17 +61,29 @@ not_in_that_order may = apart (λ n. n == 1) 1 0 refl refl may.1
 not_unscheduled : Refuses trio at_first (kill 1 ∷ kill 0 ∷ []) (kill 2)
 not_unscheduled may = absurd may.1
 
+-- so is what would kill a process that has ended
+
+abbrev ends_first : Job
+ends_first = pair (pos 0) (0 ∷ 1 ∷ [])
+
+kills_behind_an_end : Accepts ends_first (walking ends_first (λ p. done)) (join 0 2 slot.Final ∷ join 1 2 slot.Final ∷ ended 0 ∷ []) (kill 1)
+kills_behind_an_end = (omega arith, refl)
+
 -- ---- joins
 
 joins : Accepts trio at_first [] (join 2 1 slot.Start)
 joins = (omega arith, (refl, refl))
 
+abbrev is_error : Slot → Bool
+is_error slot.Error = true
+is_error other = false
+
+abbrev is_spare : Slot → Bool
+is_spare slot.Spare = true
+is_spare other = false
+
 not_as_spare : Refuses trio at_first [] (join 2 1 slot.Spare)
 not_as_spare may = apart is_spare slot.Spare slot.Start refl refl may.1.0
-  where
-    is_spare : Slot → Bool
-    is_spare slot.Spare = true
-    is_spare other = false
 
 not_later : Refuses trio at_first [] (join 2 2 slot.Start)
 not_later may = apart (λ n. n == 2) 2 1 refl refl may.1.1
@@ -82,6 +96,12 @@ joins_as_final = (omega arith, (refl, refl))
 not_before_the_end : Refuses alone_pair (walking alone_pair (λ p. asks wanted.Barrier)) [] (join 0 2 slot.Final)
 not_before_the_end may = absurd may.1
 
+not_final_as_error : Refuses alone_pair (walking alone_pair (λ p. done)) [] (join 0 2 slot.Error)
+not_final_as_error may = apart is_error slot.Error slot.Final refl refl may.1.0
+
+not_final_for_epoch_3 : Refuses alone_pair (walking alone_pair (λ p. done)) [] (join 0 3 slot.Final)
+not_final_for_epoch_3 may = apart (λ n. n == 3) 3 2 refl refl may.1.1
+
 -- a failed call is left by a join as error, and no other
 
 abbrev lossy : Job
@@ -90,36 +110,62 @@ lossy = pair (pos 0) (1 ∷ [])
 abbrev at_barriers : Ledger
 at_barriers = walking lossy (λ p. asks wanted.Barrier)
 
-joins_as_error : Accepts lossy at_barriers (barrier 0 1 ∷ kill 1 ∷ failed 0 1 1 ∷ []) (join 0 2 slot.Error)
+abbrev one_failed : List Item
+one_failed = barrier 0 1 ∷ kill 1 ∷ failed 0 1 1 ∷ []
+
+joins_as_error : Accepts lossy at_barriers one_failed (join 0 2 slot.Error)
 joins_as_error = (omega arith, (refl, refl))
+
+not_error_as_final : Refuses lossy at_barriers one_failed (join 0 2 slot.Final)
+not_error_as_final may = apart is_error slot.Error slot.Final refl refl (sym may.1.0)
+
+not_error_for_epoch_3 : Refuses lossy at_barriers one_failed (join 0 3 slot.Error)
+not_error_for_epoch_3 may = apart (λ n. n == 3) 3 2 refl refl may.1.1
 
 not_inside_a_call : Refuses lossy at_barriers (barrier 0 1 ∷ kill 1 ∷ []) (join 0 2 slot.Error)
 not_inside_a_call may = absurd may.1
 
 -- a spare joins once somebody who has a place was killed, or somebody who is present joined
 
+-- both bodies are done, and every other process is a spare
+abbrev with_spares : Job → Ledger
+with_spares job = standing job (λ p. if nat_lt p 2 then Walking (stay_of p) done else Spare 1)
+
 abbrev with_spare : Ledger
-with_spare = standing trio stands
-  where
-    stands : ℕ → Stand
-    stands p = if p == 2 then Spare 1 else Failed 1 nothing
+with_spare = with_spares trio
 
 joins_as_spare : Accepts trio with_spare (kill 1 ∷ []) (join 2 2 slot.Spare)
 joins_as_spare = (omega arith, (refl, refl, (1, inr (refl, refl))))
 
-joins_behind_another : Accepts trio with_spare (join 0 2 slot.Error ∷ []) (join 2 2 slot.Spare)
+joins_behind_another : Accepts trio with_spare (join 0 2 slot.Final ∷ []) (join 2 2 slot.Spare)
 joins_behind_another = (omega arith, (refl, refl, (0, inl (refl, refl))))
+
+not_spare_as_error : Refuses trio with_spare (kill 1 ∷ []) (join 2 2 slot.Error)
+not_spare_as_error may = apart is_spare slot.Spare slot.Error refl refl (sym may.1.0)
+
+not_spare_for_epoch_3 : Refuses trio with_spare (kill 1 ∷ []) (join 2 3 slot.Spare)
+not_spare_for_epoch_3 may = apart (λ n. n == 3) 3 2 refl refl may.1.1
 
 -- where nobody was killed and nobody joined it stays
 not_unstirred : Refuses trio with_spare [] (join 2 2 slot.Spare)
-not_unstirred may = elim may.1.2.1 [ inl joined ↦ not_both (sym joined.1) | inr lost ↦ nobody may.1.2.0 lost.1 ]
+not_unstirred may = elim may.1.2.1 [ inl joined ↦ not_both (sym joined.1) | inr lost ↦ nobody may.1.2.0 lost.0 lost.1 ]
   where
-    stands_so : (q : ℕ) (b : Bool) → is_killed (if b then Spare 1 else Failed 1 nothing) ≡ true → ⊥
-    stands_so q true e = not_both (sym e)
-    stands_so q false e = not_both (sym e)
+    nobody : (q : ℕ) → has_place two q ≡ true → is_killed (with_spare.stands q) ≡ true → ⊥
+    nobody q place = seated_in_two (λ n. is_killed (with_spare.stands n) ≡ true → ⊥) (λ e. not_both (sym e)) (λ e. not_both (sym e)) q place
 
-    nobody : (q : ℕ) → is_killed (with_spare.stands q) ≡ true → ⊥
-    nobody q e = stands_so q (q == 2) e
+-- nor does it join where only another spare was killed
+
+abbrev loses_a_spare : Job
+loses_a_spare = pair (pos 2) (3 ∷ [])
+
+not_stirred_by_a_spare : Refuses loses_a_spare (with_spares loses_a_spare) (kill 3 ∷ []) (join 2 2 slot.Spare)
+not_stirred_by_a_spare may = elim may.1.2.1 [ inl joined ↦ not_both (sym joined.1) | inr lost ↦ nobody may.1.2.0 lost.0 lost.1 ]
+  where
+    behind : Ledger
+    behind = written_all loses_a_spare (with_spares loses_a_spare) (kill 3 ∷ [])
+
+    nobody : (q : ℕ) → has_place two q ≡ true → is_killed (behind.stands q) ≡ true → ⊥
+    nobody q place = seated_in_two (λ n. is_killed (behind.stands n) ≡ true → ⊥) (λ e. not_both (sym e)) (λ e. not_both (sym e)) q place
 
 -- ---- epochs
 
@@ -151,7 +197,8 @@ begins = record {
 is_repaired : Accepts alone_pair (first_ledger alone_pair) both_joined (repaired 1 1 2 full two)
 is_repaired = (omega arith, record { waits = refl; one = begins; sized = (refl, refl); current = refl })
 
-not_before_all_join : Refuses alone_pair (first_ledger alone_pair) (join 1 1 slot.Start ∷ []) (repaired 1 1 2 full two)
+-- not with those alone that have joined, while another lives
+not_before_all_join : Refuses alone_pair (first_ledger alone_pair) (join 1 1 slot.Start ∷ []) (repaired 1 1 1 true (seat 1 1 ∷ []))
 not_before_all_join may = not_both (sym (may.1.one.all_joined 0 refl refl))
 
 not_swapped : Refuses alone_pair (first_ledger alone_pair) both_joined (repaired 1 1 2 full swapped)
@@ -172,9 +219,21 @@ not_twice may = absurd may.1.waits
 not_behind_an_end : Refuses alone_pair both_done (join 0 2 slot.Final ∷ join 1 2 slot.Final ∷ ended 0 ∷ []) (repaired 1 2 2 full two)
 not_behind_an_end may = may.1.one.none_ended 0 (omega arith) refl
 
--- nobody has a place that wasn't present, or hasn't joined
-not_a_stranger : Refuses alone_pair (first_ledger alone_pair) both_joined (repaired 1 1 2 full (seat 0 0 ∷ seat 1 7 ∷ []))
-not_a_stranger may = not_both (sym (may.1.one.seated 7 refl).0)
+-- nobody has a place that hasn't joined: rank 1 and the spare are killed in front of their joins
+
+abbrev loses_two : Job
+loses_two = pair (pos 1) (1 ∷ 2 ∷ [])
+
+not_unjoined : Refuses loses_two (first_ledger loses_two) (join 0 1 slot.Start ∷ kill 1 ∷ kill 2 ∷ []) (repaired 0 1 2 full (seat 0 0 ∷ seat 1 2 ∷ []))
+not_unjoined may = not_both (sym (may.1.one.seated 2 refl).1)
+
+-- nor in an epoch behind which the next has begun
+
+abbrev begun : Ledger → Ledger
+begun l = record l { chapters = at_key 2 (Some (two_and_spares alone_pair)) l.chapters }
+
+not_in_the_past : Refuses alone_pair (begun (standing alone_pair (λ p. Joined 1 nothing))) [] (repaired 1 1 2 full two)
+not_in_the_past may = apart is_none None (Some _) refl refl (sym may.1.current)
 
 -- the second carries what the first one did
 
@@ -186,8 +245,11 @@ not_otherwise may = apart is_swapped swapped two refl refl may.1.one
 
 -- ---- the return from `Init`
 
+abbrev init_of : (size : ℕ) (warn : Bool) (p : ℕ) → Role → (ident rank : ℕ) → Item
+init_of size warn p kind ident rank = item.Init (proc p) (epoch 1) kind (record { 0 = ident }) rank size warn
+
 abbrev init : (p : ℕ) → Role → (ident rank : ℕ) → Item
-init p kind ident rank = item.Init (proc p) (epoch 1) kind (record { 0 = ident }) rank 2 full
+init = init_of 2 full
 
 abbrev both_repaired : List Item
 both_repaired = join 0 1 slot.Start ∷ join 1 1 slot.Start ∷ repaired 1 1 2 full two ∷ repaired 0 1 2 full two ∷ []
@@ -195,9 +257,25 @@ both_repaired = join 0 1 slot.Start ∷ join 1 1 slot.Start ∷ repaired 1 1 2 f
 returns : Accepts alone_pair (first_ledger alone_pair) both_repaired (init 1 role.Initial 1 1)
 returns = (omega arith, record { opened = refl; named = refl; seated = refl; sized = (refl, refl); current = refl })
 
--- not before the callbacks have written
-not_unopened : Refuses alone_pair (first_ledger alone_pair) both_joined (init 1 role.Initial 1 1)
+-- behind the callbacks, and not before they have written
+
+abbrev calling_back : Ledger
+calling_back = standing alone_pair (λ p. Opening 1 (Callback (codes "f") ∷ []) nothing)
+
+returns_behind_callbacks : Accepts alone_pair calling_back (item.Callback (proc 1) (epoch 1) (codes "f") ∷ []) (init 1 role.Initial 1 1)
+returns_behind_callbacks = (omega arith, record { opened = refl; named = refl; seated = refl; sized = (refl, refl); current = refl })
+
+not_unopened : Refuses alone_pair calling_back [] (init 1 role.Initial 1 1)
 not_unopened may = absurd may.1.opened
+
+not_into_size_3 : Refuses alone_pair (first_ledger alone_pair) both_repaired (init_of 3 full 1 role.Initial 1 1)
+not_into_size_3 may = apart (λ n. n == 3) 3 2 refl refl may.1.sized.0
+
+not_into_a_warning : Refuses alone_pair (first_ledger alone_pair) both_repaired (init_of 2 true 1 role.Initial 1 1)
+not_into_a_warning may = not_both may.1.sized.1
+
+not_returned_in_the_past : Refuses alone_pair (begun (standing alone_pair (λ p. Opening 1 [] nothing))) [] (init 1 role.Initial 1 1)
+not_returned_in_the_past may = apart is_none None (Some _) refl refl (sym may.1.current)
 
 not_as_survivor : Refuses alone_pair (first_ledger alone_pair) both_repaired (init 1 role.Survivor 1 1)
 not_as_survivor may = apart is_survivor role.Survivor role.Initial refl refl may.1.named
@@ -230,8 +308,21 @@ ends = (omega arith, may_end (written_all alone_pair both_done both_final) refl 
 not_before_both_join : Refuses alone_pair both_done (join 0 2 slot.Final ∷ []) (ended 0)
 not_before_both_join may = apart is_none None (Some slot.Final) refl refl (may.1.final 1 refl)
 
+-- nor where one joined by an error: its barrier was revoked
+
+abbrev leaves_to_one : ℕ → Walk
+leaves_to_one zero = done
+leaves_to_one (suc p) = asks wanted.Barrier
+
+not_behind_an_error : Refuses alone_pair (walking alone_pair leaves_to_one) (barrier 1 1 ∷ join 0 2 slot.Final ∷ revoked 1 1 0 ∷ join 1 2 slot.Error ∷ []) (ended 0)
+not_behind_an_error may = apart is_failure (Some slot.Error) (Some slot.Final) refl refl (may.1.final 1 refl)
+  where
+    is_failure : Option Slot → Bool
+    is_failure None = false
+    is_failure (Some kind) = is_error kind
+
 -- nor while a spare that is present hasn't joined
-not_without_the_spare : Refuses (pair (pos 1) []) (record (walking (pair (pos 1) []) (λ p. done)) { chapters = λ e. Some (record { comm = two; present = λ p. nat_lt p 3 }) }) both_final (ended 0)
+not_without_the_spare : Refuses (pair (pos 1) []) (with_spares (pair (pos 1) [])) both_final (ended 0)
 not_without_the_spare may = not_both (sym (may.1.all_joined 2 refl refl))
 
 -- nor in epoch 1
@@ -239,7 +330,7 @@ not_at_first : Refuses alone_pair (first_ledger alone_pair) both_joined (ended 0
 not_at_first may = absurd (omega (arith, may.1.late))
 
 -- nor where the epoch has begun
-not_once_begun : Refuses alone_pair (record both_done { chapters = λ e. Some (record { comm = two; present = λ p. nat_lt p 2 }) }) both_final (ended 0)
+not_once_begun : Refuses alone_pair (begun both_done) both_final (ended 0)
 not_once_begun may = apart is_none None (Some _) refl refl (sym may.1.unbegun)
 
 -- ---- what stands in no journal

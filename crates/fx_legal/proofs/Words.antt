@@ -21,7 +21,7 @@ use Rattle.fx_walk.specs.State.{State}
 use Rattle.fx_walk.specs.Walk.{Walk, Ends, Asks, stamp_at}
 use Rattle.fx_legal.specs.Effects.{first_stay}
 use Rattle.fx_legal.specs.Groups.{at_key}
-use Rattle.fx_legal.specs.Ledger.{Chapter, Ledger, first_ledger}
+use Rattle.fx_legal.specs.Ledger.{Chapter, Ledger, procs_of, first_ledger}
 use Rattle.fx_legal.specs.Legal.{written_all}
 use Rattle.fx_legal.specs.Rules.{MayWrite}
 use Rattle.fx_legal.specs.Stands.{Stand, Stay, Walking}
@@ -55,6 +55,9 @@ call k = record { 0 = k }
 
 abbrev pub group_0 : GroupId
 group_0 = record { 0 = 0 }
+
+abbrev pub group_1 : GroupId
+group_1 = record { 0 = 1 }
 
 abbrev pub member_0 : MemberId
 member_0 = record { 0 = 0 }
@@ -96,15 +99,16 @@ two = seat 0 0 ∷ seat 1 1 ∷ []
 
 -- ---- ledgers
 
-abbrev pub two_present : Chapter
-two_present = record { comm = two; present = λ p. nat_lt p 2 }
+-- the two ranks have the places, and the spares are present too
+abbrev pub two_and_spares : Job → Chapter
+two_and_spares job = record { comm = two; present = λ p. nat_lt p (procs_of job) }
 
--- epoch 1 of the two ranks, where the processes stand so
+-- epoch 1, which all have joined, where the processes stand so
 abbrev pub standing : Job → (ℕ → Stand) → Ledger
 standing job stands = record (first_ledger job) {
   stands = stands;
-  joined = λ e p. if e == 1 then (if nat_lt p 2 then Some slot.Start else None) else None;
-  chapters = at_key 1 (Some two_present) (first_ledger job).chapters;
+  joined = λ e p. if e == 1 then (if nat_lt p (procs_of job) then Some slot.Start else None) else None;
+  chapters = at_key 1 (Some (two_and_spares job)) (first_ledger job).chapters;
 }
 
 abbrev pub stay_of : ℕ → Stay

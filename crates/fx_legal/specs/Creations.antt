@@ -33,7 +33,8 @@ abbrev pub covers_since : Redundancy → Ledger → Option ℕ → Bool
 covers_since redundancy l None = false
 covers_since redundancy l (Some epoch) = covers_losses redundancy l.stands (comm_in l epoch)
 
--- The group was created, and the places lost since then, of the communicator of that epoch, are covered: all data can be made again.
+-- The group was created, and the lost places of the communicator of that epoch are covered: all data can be made again. A place of it counts
+-- as lost once its process was killed, whenever that was.
 abbrev pub is_covered : Job → Ledger → GroupId → Bool
 is_covered job l g = covers_since (redundancy_of job) l (l.groups g.0).born
 
