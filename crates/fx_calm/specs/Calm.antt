@@ -1,0 +1,44 @@
+-- Calm runs, in which nobody is killed, of bodies that ask nothing; and what is voted and decided in them.
+use Rattle.std.specs.Prelude.{◌≡◌, refl, ℕ, Bool, true, false, if◌then◌else◌, ◌==◌, List, [], ◌∷◌}
+use Rattle.fx_base.specs.Sets.{those_below}
+use Rattle.fx_check.specs.Facts.{facts_of}
+use Rattle.fx_comm.specs.Seats.{Seat, has_place, seats_from, first_seats}
+use Rattle.fx_link.specs.declared.slot.Slot.{Slot}
+use Rattle.fx_link.specs.declared.slot.Slot.TheVariants as slot
+use Rattle.fx_script.specs.declared.job.Job.{Job}
+use Rattle.fx_walk.specs.declared.action.View.{View}
+use Rattle.fx_walk.specs.Lengths.{OnlyPrints}
+use Rattle.fx_walk.specs.State.{State}
+use Rattle.fx_walk.specs.Walk.{walk_of}
+use Rattle.fx_machine.specs.Numbers.{of_each_below}
+use Rattle.fx_fleet.specs.Rounds.{Moment, Step, Rest, Deliver, Kill, Notice, Run}
+use Rattle.fx_legal.specs.Ledger.{ranks_of, procs_of}
+
+-- neither a kill nor a notice of one
+abbrev pub is_calm : Moment → Bool
+is_calm (Step p) = true
+is_calm (Rest p) = true
+is_calm (Deliver p q) = true
+is_calm (Kill p) = false
+is_calm (Notice p q) = false
+is_calm (Run count) = true
+
+-- the body asks nothing, whatever it sees and whatever state it begins in
+abbrev pub AsksNothing : Job → Type 0
+AsksNothing job = (view : View) (state : State) → OnlyPrints (walk_of (facts_of job) job.body view state)
+
+-- who has which place, from the start to the end
+abbrev pub seats_in : Job → List Seat
+seats_in job = first_seats (ranks_of job)
+
+-- all processes, in rising order
+abbrev pub all_procs : Job → List ℕ
+all_procs job = those_below (λ q. true) (procs_of job)
+
+-- how a process joins an epoch: all of them start; then those that have a place are done, and the others are spares
+abbrev pub vote_in : Job → (epoch process : ℕ) → Slot
+vote_in job epoch q = if epoch == 1 then slot.Start else (if has_place (seats_in job) q then slot.Final else slot.Spare)
+
+-- the votes of all processes
+abbrev pub votes_in : Job → (epoch : ℕ) → List Slot
+votes_in job epoch = of_each_below (procs_of job) (vote_in job epoch)
