@@ -4,3 +4,7 @@ pub mod Standing
 pub mod Turns
 pub mod Steps
 pub mod Begins
+pub mod Deeds
+pub mod Events
+pub mod Moments
+pub mod Legality
