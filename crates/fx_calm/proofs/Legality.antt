@@ -1,22 +1,29 @@
 -- The journal of a calm run is legal.
-use Rattle.std.proofs.Common.{◌≡◌, ◌<◌, ℕ, Bool, true, false, ◌&&◌, List, [], ◌∷◌, ◌++◌, map, Option, Some, None, refl, sym, ap, subst, ◌∙◌}
-use Rattle.std.proofs.lemmas.Bool.Decides.{nat_tests}
-use Rattle.std.proofs.Common.{arith}
-use Rattle.std.specs.Prelude.{nat_lt}
+use Rattle.std.proofs.Common.{arith, ◌≡◌, ◌≤◌, ℕ, zero, suc, Bool, true, false, ◌&&◌, List, [], ◌∷◌, map, refl, ap, subst}
 use Rattle.std.specs.List.{list_all}
 use Rattle.fx_script.specs.declared.job.Event.{Event}
 use Rattle.fx_script.specs.declared.job.EventKind.{EventKind}
 use Rattle.fx_script.specs.declared.job.EventKind.TheVariants as event
 use Rattle.fx_script.specs.declared.job.Job.{Job}
+use Rattle.fx_script.specs.Spelling.{IsWritable}
+use Rattle.fx_check.specs.Facts.{facts_of}
 use Rattle.fx_check.specs.Work.{bound_of}
-use Rattle.fx_fleet.specs.World.{first_world}
+use Rattle.fx_ballot.specs.Turn.{Phase, Round}
+use Rattle.fx_link.specs.declared.slot.Slot.{Slot}
+use Rattle.fx_walk.specs.Lengths.{is_plain}
+use Rattle.fx_walk.specs.Walk.{Walk}
+use Rattle.fx_walk.proofs.Plain.{only_prints}
+use Rattle.fx_machine.specs.Nodes.{Node, Stage, Begins, Joining, Arrived, Walking, Calling, Failed, Over}
+use Rattle.fx_machine.specs.Reading.{next_ballot, turn_in}
+use Rattle.fx_fleet.specs.World.{World, first_world}
 use Rattle.fx_fleet.specs.Rounds.{whole}
 use Rattle.fx_fleet.specs.Runs.{job_setup, moment_of, moments_of, rest_bound_of, journal_of}
 use Rattle.fx_legal.specs.Effects.{due_kills}
-use Rattle.fx_legal.specs.Ledger.{Chapter, kills_in, first_ledger, first_chapter, procs_of}
+use Rattle.fx_legal.specs.Ledger.{Ledger, kills_in}
 use Rattle.fx_legal.specs.Legal.{IsLegalWhole, ledger_of}
-use Rattle.fx_calm.specs.Calm.{is_calm, AsksNothing}
-use Rattle.fx_calm.proofs.Standing.{Tied, Legally}
+use Rattle.fx_calm.specs.Calm.{is_calm, AsksNothing, IsPeaceful, HoldsAllVotes}
+use Rattle.fx_calm.proofs.Standing.{InPhase, IsEarly, AtStage, IsCalm, Tied, Legally}
+use Rattle.fx_calm.proofs.Turns.{Agrees, agrees}
 use Rattle.fx_calm.proofs.Events.{acts_legally, hears_legally}
 use Rattle.fx_calm.proofs.Moments.{IsCalmlyKept, calm_always}
 
@@ -72,3 +79,46 @@ pub is_legal : (job : Job) → AsksNothing job → list_all is_calm (moments_of 
 is_legal job asks calm =
     let is = calmly job asks calm (rest_bound_of job) (bound_of job) in
     (is.goes, ap (due_kills (ledger_of job (journal_of job)).stands) is.tied.book.kills)
+
+-- ---- what holds of the world
+
+is_early : (job : Job) (l : Ledger) (p e : ℕ) (walk : Walk) (x : Stage) → AtStage job l p e walk x → e ≤ 1
+is_early job l p e walk Begins h = let first = h.0 in omega (arith, first)
+is_early job l p e walk (Joining phase) h = below e h.early
+  where
+    below : (e : ℕ) → IsEarly l e → e ≤ 1
+    below zero early = omega arith
+    below (suc zero) early = omega arith
+    below (suc (suc e)) early = absurd early
+is_early job l p e walk Arrived h = let first = h.first in omega (arith, first)
+is_early job l p e walk Walking h = let first = h.first in omega (arith, first)
+is_early job l p e walk (Calling core) h = absurd h
+is_early job l p e walk Failed h = absurd h
+is_early job l p e walk Over h = let first = h.first in omega (arith, first)
+
+pub is_peaceful : (job : Job) (l : Ledger) (w : World) → Tied job l w → IsPeaceful job w
+is_peaceful job l w tied = record {
+  living = tied.killed;
+  lost_none = λ p q. (tied.each p).lost q;
+  early = λ p. is_early job l (w.node p).me (w.node p).epoch (w.node p).walk (w.node p).stage (tied.each p).at;
+  seated = λ p. (tied.each p).comm;
+  present = λ p. (tied.each p).present;
+}
+
+-- the phase of a node that joins
+phase_is : (job : Job) (l : Ledger) (n : Node) → IsCalm job l n → (phase : Phase) → n.stage ≡ Joining phase → InPhase job l (suc n.epoch) phase
+phase_is job l n is phase e = (subst (AtStage job l n.me n.epoch n.walk) e is.at).holds
+
+pub holds_all_votes : (job : Job) (l : Ledger) (w : World) → Tied job l w → HoldsAllVotes job w
+holds_all_votes job l w tied = record {
+  held = λ p round slots e. (phase_is job l (w.node p) (tied.each p) (Round round slots) e).votes;
+  decided = λ p phase slots e decides.
+      let here = agrees job l (w.node p) (tied.each p) phase (phase_is job l (w.node p) (tied.each p) phase e) in
+      (subst (Agrees job l (suc (w.node p).epoch) (turn_in (next_ballot (w.node p)) (w.node p) phase).phase) decides here).votes;
+}
+
+-- ---- bodies
+
+-- statements that a rank carries out by itself ask nothing
+pub plain_asks_nothing : (job : Job) → IsWritable job → list_all is_plain job.body ≡ true → AsksNothing job
+plain_asks_nothing job writable plain = only_prints (facts_of job) job.body 64 writable.body plain

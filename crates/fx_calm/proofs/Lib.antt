@@ -8,3 +8,4 @@ pub mod Deeds
 pub mod Events
 pub mod Moments
 pub mod Legality
+pub mod Row

@@ -1,8 +1,10 @@
 -- Calm runs, in which nobody is killed, of bodies that ask nothing; and what is voted and decided in them.
-use Rattle.std.specs.Prelude.{◌≡◌, refl, ℕ, Bool, true, false, if◌then◌else◌, ◌==◌, List, [], ◌∷◌}
+use Rattle.std.specs.Prelude.{◌≡◌, ◌≤◌, ℕ, suc, Bool, true, false, if◌then◌else◌, ◌==◌, List}
 use Rattle.fx_base.specs.Sets.{those_below}
 use Rattle.fx_check.specs.Facts.{facts_of}
-use Rattle.fx_comm.specs.Seats.{Seat, has_place, seats_from, first_seats}
+use Rattle.fx_ballot.specs.declared.poll.Poll.TheVariants as poll
+use Rattle.fx_ballot.specs.Turn.{Phase, Round}
+use Rattle.fx_comm.specs.Seats.{Seat, has_place, first_seats}
 use Rattle.fx_link.specs.declared.slot.Slot.{Slot}
 use Rattle.fx_link.specs.declared.slot.Slot.TheVariants as slot
 use Rattle.fx_script.specs.declared.job.Job.{Job}
@@ -10,7 +12,10 @@ use Rattle.fx_walk.specs.declared.action.View.{View}
 use Rattle.fx_walk.specs.Lengths.{OnlyPrints}
 use Rattle.fx_walk.specs.State.{State}
 use Rattle.fx_walk.specs.Walk.{walk_of}
+use Rattle.fx_machine.specs.Nodes.{Joining}
 use Rattle.fx_machine.specs.Numbers.{of_each_below}
+use Rattle.fx_machine.specs.Reading.{next_ballot, turn_in}
+use Rattle.fx_fleet.specs.World.{World}
 use Rattle.fx_fleet.specs.Rounds.{Moment, Step, Rest, Deliver, Kill, Notice, Run}
 use Rattle.fx_legal.specs.Ledger.{ranks_of, procs_of}
 
@@ -42,3 +47,17 @@ vote_in job epoch q = if epoch == 1 then slot.Start else (if has_place (seats_in
 -- the votes of all processes
 abbrev pub votes_in : Job → (epoch : ℕ) → List Slot
 votes_in job epoch = of_each_below (procs_of job) (vote_in job epoch)
+
+-- nobody was killed or is told lost, and nobody is past the first epoch, in which all have their places
+pub record IsPeaceful (job : Job) (w : World) : Type 0 where
+  pub living : (p : ℕ) → w.killed p ≡ false
+  pub lost_none : (p q : ℕ) → (w.node p).lost q ≡ false
+  pub early : (p : ℕ) → (w.node p).epoch ≤ 1
+  pub seated : (p : ℕ) → (w.node p).comm ≡ seats_in job
+  pub present : (p : ℕ) → (w.node p).present ≡ all_procs job
+
+-- what is held as an estimate in the ballot of the next epoch, and what is decided there, are the votes of all
+pub record HoldsAllVotes (job : Job) (w : World) : Type 0 where
+  pub held : (p round : ℕ) (slots : List Slot) → (w.node p).stage ≡ Joining (Round round slots) → slots ≡ votes_in job (suc (w.node p).epoch)
+  pub decided : (p : ℕ) (phase : Phase) (slots : List Slot) → (w.node p).stage ≡ Joining phase
+      → (turn_in (next_ballot (w.node p)) (w.node p) phase).poll ≡ poll.Decided slots → slots ≡ votes_in job (suc (w.node p).epoch)
