@@ -1,6 +1,6 @@
 -- What the begin of the first epoch, a return from `Init` and the end owe in a calm run.
 use Rattle.std.proofs.lemmas.Bool.Decides.{nat_tests}
-use Rattle.std.proofs.Common.{arith, ◌≡◌, ◌≢◌, ◌<◌, ℕ, zero, suc, Bool, true, false, ◌&&◌, ◌||◌, ◌==◌, List, [], ◌∷◌, ◌++◌, length, get_or, Option, Some, None, is_some, refl, sym, ap, subst, ◌∙◌}
+use Rattle.std.proofs.Common.{arith, ◌≡◌, ◌<◌, ℕ, suc, Bool, true, false, ◌&&◌, ◌||◌, ◌==◌, List, length, get_or, Option, Some, None, is_some, refl, sym, ap, subst, ◌∙◌}
 use Rattle.std.specs.Prelude.{if◌then◌else◌, nat_lt, not}
 use Rattle.std.specs.List.{list_all}
 use Rattle.fx_base.specs.declared.names.Role.TheVariants as role
@@ -23,7 +23,6 @@ use Rattle.fx_machine.specs.Reading.{is_join}
 use Rattle.fx_machine.specs.Steps.{inits}
 use Rattle.fx_fleet.specs.Runs.{job_setup}
 use Rattle.fx_legal.specs.Effects.{written, state_kept, opened, begun_by, belongs, first_stay, returned_from_init}
-use Rattle.fx_legal.specs.Groups.{at_key}
 use Rattle.fx_legal.specs.Ledger.{Chapter, Ledger, ranks_of, procs_of, comm_in, comm_of, is_in, is_present}
 use Rattle.fx_legal.specs.Rules.{IsTheOne, IsWaiting, HasOpened, HasSeat, IsSize, IsEnding, MayEnd}
 use Rattle.fx_legal.specs.Stands as stand
@@ -31,7 +30,7 @@ use Rattle.fx_legal.specs.Stands.{is_killed}
 use Rattle.fx_calm.specs.Calm.{AsksNothing, seats_in, all_procs, vote_in, votes_in}
 use Rattle.fx_calm.proofs.Lists.{length_of_each, of_each_at, each_of_each}
 use Rattle.fx_calm.proofs.Seats.{place_below, seat_is, placed, unplaced, all_seated, repairs_none, has_all, length_all, seat_of_all, all_vote}
-use Rattle.fx_calm.proofs.Standing.{HasBegun, IsEarly, Waits, Settled, Agreed, IsCalm, Book, Later, Owes, texts_later}
+use Rattle.fx_calm.proofs.Standing.{HasBegun, Waits, Settled, Agreed, IsCalm, Book, Later, Owes, texts_later}
 use Rattle.fx_calm.proofs.Steps.{key_same, stand_later, stand_book}
 
 -- ---- the ledger
@@ -209,7 +208,7 @@ arrives job l n slots is none votes = λ i. record n {
         ap (λ (e : ℕ). voters (is_join (suc e)) n.present slots) none ∙ ap (λ (who : List ℕ). voters (is_join 1) who slots) is.present
         ∙ ap (λ (xs : List Slot). voters (is_join 1) (all_procs job) xs) votes
         ∙ all_vote (is_join 1) (all_procs job) (votes_in job 1) (length_all (procs_of job) ∙ sym (length_of_each (procs_of job) (vote_in job 1)))
-          (each_of_each (λ x. is_join 1 x ≡ true) (vote_in job 1) (procs_of job) (λ k. refl))
+        (each_of_each (λ x. is_join 1 x ≡ true) (vote_in job 1) (procs_of job) (λ k. refl))
 
     mended : repaired n.comm (has (voters (is_join (suc n.epoch)) n.present slots)) ≡ seats_in job
     mended =
@@ -285,10 +284,10 @@ is_the_end job l n slots is one votes = two_true (nat_lt 0 n.epoch) _ (ap (λ (e
     final q place =
         let few = seated_below job q place in
         ap is_final
-          (ap (λ (xs : List Slot). get_or xs (seat_of n.present q) slot.Lost) votes
-          ∙ ap (λ (k : ℕ). get_or (votes_in job 2) k slot.Lost) (ap (λ (who : List ℕ). seat_of who q) is.present ∙ seat_of_all (procs_of job) q few)
-          ∙ of_each_at (procs_of job) (vote_in job 2) slot.Lost q few
-          ∙ ap (λ (b : Bool). if b then slot.Final else slot.Spare) place)
+        (ap (λ (xs : List Slot). get_or xs (seat_of n.present q) slot.Lost) votes
+        ∙ ap (λ (k : ℕ). get_or (votes_in job 2) k slot.Lost) (ap (λ (who : List ℕ). seat_of who q) is.present ∙ seat_of_all (procs_of job) q few)
+        ∙ of_each_at (procs_of job) (vote_in job 2) slot.Lost q few
+        ∙ ap (λ (b : Bool). if b then slot.Final else slot.Spare) place)
 
 pub ends_owes : (job : Job) (l : Ledger) (n : Node) (phase : Phase) (slots : List Slot) → n.me < procs_of job → IsCalm job l n → Book job l → Waits job l n.me n.epoch phase
     → n.epoch ≡ 1 → HasBegun l → Agreed job l 2 slots → Owes job l n (ends n)

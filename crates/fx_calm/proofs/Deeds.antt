@@ -1,6 +1,6 @@
 -- Each deed of a node in a calm run does what it owes; most deeds can't be.
 use Rattle.std.proofs.lemmas.Bool.Decides.{nat_tests}
-use Rattle.std.proofs.Common.{arith, ◌≡◌, ◌<◌, ℕ, zero, suc, Bool, true, false, ◌&&◌, ◌||◌, ◌==◌, List, [], ◌∷◌, Option, Some, None, is_some, refl, sym, ap, subst, ◌∙◌, ◌⊎◌, inl, inr}
+use Rattle.std.proofs.Common.{arith, ◌≡◌, ◌<◌, ℕ, zero, suc, Bool, true, false, ◌&&◌, ◌||◌, List, [], ◌∷◌, Option, Some, None, is_some, refl, sym, ap, subst, ◌∙◌, inl}
 use Rattle.std.specs.Prelude.{if◌then◌else◌, nat_lt}
 use Rattle.std.specs.List.{list_any}
 use Rattle.fx_ballot.specs.declared.poll.Poll.{Poll}
@@ -13,23 +13,23 @@ use Rattle.fx_link.specs.declared.slot.Slot.TheVariants as slot
 use Rattle.fx_script.specs.declared.job.Job.{Job}
 use Rattle.fx_walk.specs.declared.wanted.Wanted.{Wanted}
 use Rattle.fx_walk.specs.Lengths.{OnlyPrints}
-use Rattle.fx_walk.specs.Walk.{Walk, Ends, Reply}
-use Rattle.fx_machine.specs.Ballots.{voters, arrived, repairs, ends, is_end, moves, speaks, joined, all_final}
+use Rattle.fx_walk.specs.Walk.{Walk, Reply}
+use Rattle.fx_machine.specs.Ballots.{voters, arrived, repairs, ends, is_end, joined, all_final}
 use Rattle.fx_machine.specs.Nodes.{Node, Act, Stage, Core, Begins, Joining, Arrived, Walking, Calling, Failed, members}
 use Rattle.fx_machine.specs.Reading.{next_ballot, turn_in, vote_of, has_left, is_join}
 use Rattle.fx_machine.specs.Steps.{may_help_out}
 use Rattle.fx_fleet.specs.Runs.{job_setup}
-use Rattle.fx_deeds.specs.Deeds.{AsksFor, IsIn, InBallot, OfEpoch, OfCall, Reason, First, HelpsOut, HasFailed, IsDone, IsAffirmed, Deed, Joins, Moves, Speaks, EndsAll, Repairs, Inits, PassesOn, PrintsOut, IsRefused, Attaches, Stores, Commits, Restores, EntersBarrier, EntersReduction, EntersShift, EntersAgreement, EntersDeletion, EntersClosing, EntersCreation, PassesBarrier, Reduces, Shifts, GathersNoMore, VotesNo, VotesYes, VotesFresh, HelpsAndGives, VotesFinding, ReturnsError, ReturnsBits, Closes, Creates, Deletes}
-use Rattle.fx_legal.specs.Ledger.{Ledger, procs_of, is_present}
+use Rattle.fx_deeds.specs.Deeds.{AsksFor, IsIn, OfEpoch, OfCall, Reason, First, HelpsOut, HasFailed, IsDone, Deed, Joins, Moves, Speaks, EndsAll, Repairs, Inits, PassesOn, PrintsOut, IsRefused, Attaches, Stores, Commits, Restores, EntersBarrier, EntersReduction, EntersShift, EntersAgreement, EntersDeletion, EntersClosing, EntersCreation, PassesBarrier, Reduces, Shifts, GathersNoMore, VotesNo, VotesYes, VotesFresh, HelpsAndGives, VotesFinding, ReturnsError, ReturnsBits, Closes, Creates, Deletes}
+use Rattle.fx_legal.specs.Ledger.{Ledger, procs_of}
 use Rattle.fx_legal.specs.Rules.{MayJoin, IsStirred}
 use Rattle.fx_legal.specs.Stands as stand
 use Rattle.fx_legal.specs.Stands.{shown}
-use Rattle.fx_calm.specs.Calm.{AsksNothing, seats_in, all_procs, vote_in, votes_in}
+use Rattle.fx_calm.specs.Calm.{AsksNothing, seats_in, vote_in}
 use Rattle.fx_calm.proofs.Seats.{has_all}
-use Rattle.fx_calm.proofs.Standing.{InPhase, IsEarly, Waits, Settled, InBody, AtStage, Agreed, IsCalm, Book, Owes}
+use Rattle.fx_calm.proofs.Standing.{IsEarly, Waits, Settled, AtStage, Agreed, IsCalm, Book, Owes}
 use Rattle.fx_calm.proofs.Turns.{Agrees, vote_is, agrees}
 use Rattle.fx_calm.proofs.Steps.{moves_owes, speaks_owes, passes_owes, prints_owes, join_owes}
-use Rattle.fx_calm.proofs.Begins.{Peace, present_begun, begun_node, begins_owes, arrives, inits_owes, is_the_end, ends_owes}
+use Rattle.fx_calm.proofs.Begins.{Peace, present_begun, begins_owes, arrives, inits_owes, is_the_end, ends_owes}
 
 -- ---- a spare that was stirred
 
@@ -67,7 +67,7 @@ stirred job l n is book at may =
     let there = there_is (vote_of (next_ballot n) n found.0) (right_of (has n.present found.0) (is_some (vote_of (next_ballot n) n found.0)) found.1) in
     let vote = vote_is job l n is found.0 there.0 there.1 in
     let few = true_less found.0 (procs_of job) (sym (has_all (procs_of job) found.0) ∙ ap (λ (who : List ℕ). has who found.0) (sym is.present)
-      ∙ left_of (has n.present found.0) (is_some (vote_of (next_ballot n) n found.0)) found.1) in
+    ∙ left_of (has n.present found.0) (is_some (vote_of (next_ballot n) n found.0)) found.1) in
     (found.0, inl (present_begun job l book at.begun found.0 few, ap is_some (ap (λ (e : ℕ). l.joined (suc e) found.0) (sym at.first) ∙ vote.1)))
 
 -- ---- deeds

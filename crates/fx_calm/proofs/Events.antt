@@ -1,8 +1,7 @@
 -- A step and a delivery in the world of a calm run.
 use Rattle.std.proofs.lemmas.Bool.Decides.{nat_tests}
 use Rattle.std.proofs.lemmas.List.Elements.{filter-append}
-use Rattle.std.proofs.Common.{arith, ◌≡◌, ◌≢◌, ◌<◌, ℕ, zero, suc, Bool, true, false, ◌&&◌, ◌==◌, List, [], ◌∷◌, ◌++◌, map, Option, Some, None, refl, sym, ap, subst, ◌∙◌}
-use Rattle.std.specs.Prelude.{if◌then◌else◌}
+use Rattle.std.proofs.Common.{arith, ◌≡◌, ◌<◌, ℕ, Bool, true, false, ◌&&◌, ◌==◌, List, [], ◌∷◌, ◌++◌, map, Some, refl, sym, ap, subst, ◌∙◌}
 use Rattle.fx_ballot.specs.World.{put}
 use Rattle.fx_item.specs.declared.item.Item.{Item}
 use Rattle.fx_item.specs.declared.item.Item.TheVariants as item
@@ -40,7 +39,7 @@ noted_more : (p : ℕ) (before items : List Item) (sends : List (ℕ × Text)) �
 noted_more p before items sends =
     filter-append is_of_journal before (items ++ map (send_item p) sends)
     ∙ ap (λ (l : List Item). noted before ++ l)
-      (filter-append is_of_journal items (map (send_item p) sends) ∙ ap (λ (l : List Item). noted items ++ l) (none_sent p sends) ∙ append_none (noted items))
+    (filter-append is_of_journal items (map (send_item p) sends) ∙ ap (λ (l : List Item). noted items ++ l) (none_sent p sends) ∙ append_none (noted items))
 
 -- a process that is up is one of the job
 up_below : (s : Setup) (w : World) (p : ℕ) → up s w p ≡ true → p < s.procs

@@ -9,7 +9,6 @@ use Rattle.fx_script.specs.Spelling.{IsWritable}
 use Rattle.fx_check.specs.Facts.{facts_of}
 use Rattle.fx_check.specs.Work.{bound_of}
 use Rattle.fx_ballot.specs.Turn.{Phase, Round}
-use Rattle.fx_link.specs.declared.slot.Slot.{Slot}
 use Rattle.fx_walk.specs.Lengths.{is_plain}
 use Rattle.fx_walk.specs.Walk.{Walk}
 use Rattle.fx_walk.proofs.Plain.{only_prints}

@@ -1,5 +1,5 @@
 -- What steps and deliveries keep, where nobody is killed, holds behind calm moments and their tail.
-use Rattle.std.proofs.Common.{◌≡◌, ℕ, Bool, true, false, ◌&&◌, ◌==◌, List, [], ◌∷◌, Option, Some, None, refl, sym, ap, subst, ◌∙◌}
+use Rattle.std.proofs.Common.{◌≡◌, ℕ, Bool, true, false, ◌&&◌, ◌==◌, List, [], ◌∷◌, Option, Some, None, refl, sym, subst, ◌∙◌}
 use Rattle.std.specs.Prelude.{if◌then◌else◌}
 use Rattle.std.specs.List.{list_all}
 use Rattle.fx_machine.specs.Nodes.{Act}
@@ -8,7 +8,7 @@ use Rattle.fx_machine.specs.Steps.{next}
 use Rattle.fx_machine.specs.Texts.{Text}
 use Rattle.fx_fleet.specs.World.{World, up, does_if, steps, receives_front, delivers, learns, may_learn, notices}
 use Rattle.fx_fleet.specs.World as world
-use Rattle.fx_fleet.specs.Rounds.{Moment, Step, Rest, Deliver, Kill, Notice, Run, is_quiet, rests, receives_all, drains, attends, fair_turn, fair_round, happens, all_happen, all_over, tail, whole}
+use Rattle.fx_fleet.specs.Rounds.{Moment, Step, Rest, Deliver, Kill, Notice, Run, is_quiet, rests, receives_all, drains, attends, fair_turn, fair_round, happens, all_happen, all_over, whole}
 use Rattle.fx_deeds.proofs.Whole.{until_keeps, rising_keep}
 use Rattle.fx_calm.specs.Calm.{is_calm}
 use Rattle.fx_calm.proofs.Lists.{chosen, same_number}
@@ -75,7 +75,7 @@ module _ (s : Setup) (Is : World → Type 0) (k : IsCalmlyKept s Is) where
   moment_keeps fuel (Rest p) w calm is = rest_keeps fuel p w is
   moment_keeps fuel (Deliver p q) w calm is = delivery_keeps p q w is
   moment_keeps fuel (Kill p) w calm is = absurd cc
-  moment_keeps fuel (Notice p q) w calm is = absurd cc
+  moment_keeps fuel (Notice p q) w calm is = notice_keeps p q w is
   moment_keeps fuel (Run count) w calm is = rising_keep Is (λ i. fair_round s fuel) (λ i x. round_keeps fuel x) count w is
 
   moments_keep : (fuel : ℕ) (ms : List Moment) (w : World) → list_all is_calm ms ≡ true → Is w → Is (all_happen s fuel ms w)

@@ -1,5 +1,5 @@
 -- A calm run to its end: one rank, one spare, and an empty body.
-use Rattle.std.proofs.Common.{◌≡◌, true, false, List, [], ◌∷◌, refl}
+use Rattle.std.proofs.Common.{◌≡◌, true, false, List, [], ◌∷◌, refl, subst}
 use Rattle.std.specs.Prelude.{ℕ, pos}
 use Rattle.std.specs.List.{list_all}
 use Rattle.fx_base.specs.Sets.{those_below}
@@ -14,7 +14,9 @@ use Rattle.fx_link.specs.declared.slot.Slot.TheVariants as slot
 use Rattle.fx_machine.specs.Numbers.{proc, epoch_no}
 use Rattle.fx_script.specs.declared.job.EventKind.TheVariants as event
 use Rattle.fx_script.specs.declared.job.Job.{Job}
+use Rattle.fx_legal.specs.Legal.{IsLegalWhole}
 use Rattle.fx_calm.specs.Calm.{is_calm, AsksNothing}
+use Rattle.fx_calm.proofs.Legality.{is_legal}
 
 abbrev here : Spot
 here = record { line = 1; column = 1 }
@@ -59,3 +61,7 @@ is_calm_run = refl
 row : journal_of job ≡ items
 unfolding those_below seats_from
 row = refl
+
+-- so the law says of these nine items that they are legal
+legal_row : IsLegalWhole job items
+legal_row = subst (IsLegalWhole job) row (is_legal job asks_nothing is_calm_run)

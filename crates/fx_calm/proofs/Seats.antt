@@ -1,22 +1,19 @@
 -- The first communicator, all processes, and a repair behind which all are present.
 use Rattle.std.proofs.lemmas.Bool.Decides.{nat_tests}
-use Rattle.std.proofs.Common.{arith, ◌≡◌, ◌≢◌, ◌<◌, ◌≤◌, ℕ, zero, suc, ◌+◌, Bool, true, false, cond, ◌||◌, ◌&&◌, ◌==◌, List, [], ◌∷◌, ◌++◌, map, length, get_or, Option, Some, None, refl, sym, ap, subst, ◌∙◌}
+use Rattle.std.proofs.Common.{arith, ◌≡◌, ◌<◌, ℕ, zero, suc, ◌+◌, Bool, true, false, cond, ◌||◌, ◌==◌, List, [], ◌∷◌, ◌++◌, length, Option, Some, None, refl, sym, ap, subst, ◌∙◌}
 use Rattle.std.specs.Prelude.{if◌then◌else◌, nat_lt, slice_index_or}
 use Rattle.std.specs.List.{list_all}
 use Rattle.std.specs.Option.{option_map}
-use Rattle.std.proofs.lemmas.List.{length-append}
 use Rattle.fx_base.specs.Sets.{those_below}
-use Rattle.fx_base.specs.declared.names.Ident.{Ident}
-use Rattle.fx_base.specs.declared.names.Proc.{Proc}
 use Rattle.fx_ballot.specs.Names.{seat_at, seat_of, has}
-use Rattle.fx_ballot.proofs.Names.{seat_found, has_seat}
-use Rattle.fx_comm.specs.Seats.{Seat, seat, seats_from, first_seats, has_place, place_in, idents_of, filled, spares_of, repaired}
+use Rattle.fx_ballot.proofs.Names.{seat_found}
+use Rattle.fx_comm.specs.Seats.{Seat, seats_from, first_seats, has_place, place_in, idents_of, filled, spares_of, repaired}
 use Rattle.fx_link.specs.declared.slot.Slot.{Slot}
 use Rattle.fx_machine.specs.Nodes.{procs_of}
 use Rattle.fx_machine.specs.Numbers.{of_each_below}
 use Rattle.fx_machine.specs.Ballots.{voters}
 use Rattle.fx_legal.specs.Rules.{HasSeat}
-use Rattle.fx_calm.proofs.Lists.{Each, equal, unequal, same_number, length_of_each, of_each_at}
+use Rattle.fx_calm.proofs.Lists.{Each, equal, same_number, length_of_each, of_each_at}
 
 or_first : (a b : Bool) → a ≡ true → (a || b) ≡ true
 or_first a b e = grind (arith, nat_tests)
@@ -44,7 +41,7 @@ SeatOf seats q = HasSeat seats (seat_of (procs_of seats) q) (record { 0 = slice_
 
 here_or_later : (s : Seat) (seats : List Seat) (q : ℕ) → (has_place seats q ≡ true → SeatOf seats q) → (b : Bool) → (s.1.0 == q) ≡ b → (b || has_place seats q) ≡ true
     → HasSeat (s ∷ seats) (if b then 0 else suc (seat_of (procs_of seats) q))
-      (record { 0 = slice_index_or (s.0.0 ∷ idents_of seats) (if b then 0 else suc (seat_of (procs_of seats) q)) 0 }, record { 0 = q })
+    (record { 0 = slice_index_or (s.0.0 ∷ idents_of seats) (if b then 0 else suc (seat_of (procs_of seats) q)) 0 }, record { 0 = q })
 here_or_later s seats q later true is e = λ i. (s.0, record { 0 = equal s.1.0 q is i })
 here_or_later s seats q later false is e = later e
 

@@ -1,11 +1,10 @@
 -- What holds of a node, of a ledger and of a world in a calm run.
-use Rattle.std.proofs.lemmas.Bool.Decides.{nat_tests}
-use Rattle.std.proofs.Common.{arith, ◌≡◌, ◌≢◌, ◌<◌, ℕ, zero, suc, Bool, true, false, ◌==◌, List, [], ◌∷◌, ◌++◌, Option, Some, None, is_some, refl, sym, ap, subst, ◌∙◌}
+use Rattle.std.proofs.Common.{◌≡◌, ◌≢◌, ◌<◌, ℕ, zero, suc, Bool, true, false, List, [], Some, None, is_some, refl, sym, ap, ◌∙◌}
 use Rattle.std.specs.List.{filter}
 use Rattle.fx_base.specs.declared.names.Role.TheVariants as role
 use Rattle.fx_ballot.specs.Turn.{Phase, Outside, Voting, Round, Decided}
 use Rattle.fx_check.specs.Facts.{facts_of}
-use Rattle.fx_comm.specs.Seats.{Seat, has_place}
+use Rattle.fx_comm.specs.Seats.{has_place}
 use Rattle.fx_item.specs.declared.item.Item.{Item}
 use Rattle.fx_link.specs.declared.slot.Slot.{Slot}
 use Rattle.fx_script.specs.declared.job.Job.{Job}

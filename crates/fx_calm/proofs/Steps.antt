@@ -1,12 +1,11 @@
 -- What the steps of a node owe in a calm run: in ballots, joins, and along the walk.
 use Rattle.std.proofs.lemmas.Bool.Decides.{nat_tests}
-use Rattle.std.proofs.Common.{arith, ◌≡◌, ◌≢◌, ◌<◌, ℕ, zero, suc, Bool, true, false, ◌&&◌, ◌||◌, ◌==◌, List, [], ◌∷◌, ◌++◌, map, Option, Some, None, is_some, refl, sym, ap, subst, ◌∙◌}
+use Rattle.std.proofs.Common.{arith, ◌≡◌, ◌≢◌, ◌<◌, ℕ, suc, Bool, true, ◌&&◌, ◌==◌, List, [], ◌∷◌, ◌++◌, map, Some, None, refl, sym, ap, subst, ◌∙◌}
 use Rattle.std.specs.Prelude.{if◌then◌else◌, not}
 use Rattle.std.specs.List.{filter}
 use Rattle.fx_ballot.specs.Names.{seat_of}
 use Rattle.fx_ballot.specs.Turn.{Phase}
 use Rattle.fx_ballot.specs.World.{put}
-use Rattle.fx_comm.specs.Seats.{has_place}
 use Rattle.fx_check.specs.Facts.{facts_of}
 use Rattle.fx_item.specs.declared.item.Item.TheVariants as item
 use Rattle.fx_link.specs.declared.slot.Slot.{Slot}
@@ -23,13 +22,13 @@ use Rattle.fx_machine.specs.Steps.{passes_on, prints}
 use Rattle.fx_machine.specs.Texts.{Text, Join, Jest}
 use Rattle.fx_fleet.specs.World.{sent_to}
 use Rattle.fx_legal.specs.Effects.{written, state_left, printed}
-use Rattle.fx_legal.specs.Groups.{at_key, at_pair}
+use Rattle.fx_legal.specs.Groups.{at_key}
 use Rattle.fx_legal.specs.Ledger.{Ledger, procs_of}
 use Rattle.fx_legal.specs.Rules.{MayJoin, IsPrint}
 use Rattle.fx_legal.specs.Stands as stand
 use Rattle.fx_legal.specs.Stands.{shown}
 use Rattle.fx_calm.specs.Calm.{vote_in, votes_in}
-use Rattle.fx_calm.proofs.Lists.{Each, each_append, chosen, equal, same_number}
+use Rattle.fx_calm.proofs.Lists.{each_append, chosen, equal, same_number}
 use Rattle.fx_calm.proofs.Standing.{HasJoined, IsTrue, AreTrue, InPhase, IsEarly, Waits, InBody, AtStage, IsCalm, Book, Later, Owes, texts_later, early_later}
 
 -- ---- tables
@@ -105,7 +104,7 @@ passes_owes job l n rest is book w e at =
       present = is.present;
       named = is.named;
       at = subst (AtStage job l n.me n.epoch rest) (sym at)
-        (record { first = w.first; begun = w.begun; seated = w.seated; stay = w.stay; within = w.within; stand = w.stand ∙ ap (λ (x : Walk). stand.Walking w.stay (shown x)) e; only = subst OnlyPrints e w.only });
+          (record { first = w.first; begun = w.begun; seated = w.seated; stay = w.stay; within = w.within; stand = w.stand ∙ ap (λ (x : Walk). stand.Walking w.stay (shown x)) e; only = subst OnlyPrints e w.only });
       texts = is.texts;
     }) book
 
@@ -177,15 +176,15 @@ prints_owes job l n what rest few is book w e at = record {
     present = is.present;
     named = is.named;
     at = subst (AtStage job (record l { stands = at_key n.me (printed (l.stands n.me)) l.stands }) n.me n.epoch rest) (sym at)
-      (record {
-        first = w.first;
-        begun = w.begun;
-        seated = w.seated;
-        stay = w.stay;
-        within = w.within;
-        stand = key_same n.me (printed (l.stands n.me)) l.stands ∙ ap printed stands;
-        only = (subst OnlyPrints e w.only).1;
-      });
+        (record {
+          first = w.first;
+          begun = w.begun;
+          seated = w.seated;
+          stay = w.stay;
+          within = w.within;
+          stand = key_same n.me (printed (l.stands n.me)) l.stands ∙ ap printed stands;
+          only = (subst OnlyPrints e w.only).1;
+        });
     texts = λ q. texts_later job n.me l _ (stand_later job l n.me (printed (l.stands n.me))) q (n.texts q) (is.texts q);
   };
   sends = λ b. tt;

@@ -1,14 +1,13 @@
 -- A turn of a calm ballot: what is formed, said, adopted and decided are the votes of all.
-use Rattle.std.proofs.lemmas.Bool.Decides.{nat_tests}
 use Rattle.std.proofs.lemmas.Bool.{cases_lt}
-use Rattle.std.proofs.Common.{arith, ◌≡◌, ◌<◌, ℕ, zero, suc, Bool, true, false, ◌||◌, ◌&&◌, ◌==◌, List, [], ◌∷◌, ◌++◌, length, Option, Some, None, refl, sym, ap, subst, ◌∙◌, ◌⊎◌, inl, inr, cond}
+use Rattle.std.proofs.Common.{arith, ◌≡◌, ◌<◌, ℕ, zero, suc, Bool, true, false, ◌||◌, ◌&&◌, ◌==◌, List, [], ◌∷◌, ◌++◌, length, Option, Some, None, refl, sym, ap, subst, ◌∙◌, inl, inr}
 use Rattle.std.specs.Prelude.{if◌then◌else◌, nat_lt}
 use Rattle.std.specs.Option.{option_or}
 use Rattle.fx_ballot.specs.declared.heard.Heard.{Heard}
 use Rattle.fx_ballot.specs.declared.poll.Poll.{Poll}
 use Rattle.fx_ballot.specs.declared.poll.Poll.TheVariants as poll
 use Rattle.fx_ballot.specs.Names.{seat_at, seat_of}
-use Rattle.fx_ballot.specs.Turn.{Phase, Outside, Voting, Round, Decided, Turn, turn, form, follow, speak, decide, slots_of, slot_of, missing_slot, with_slot}
+use Rattle.fx_ballot.specs.Turn.{Phase, Outside, Voting, Round, Decided, Turn, turn, form, follow, speak, decide, slots_of, slot_of, with_slot}
 use Rattle.fx_link.specs.declared.slot.Slot.{Slot}
 use Rattle.fx_script.specs.declared.job.Job.{Job}
 use Rattle.fx_machine.specs.Nodes.{Node}
@@ -20,7 +19,7 @@ use Rattle.fx_calm.specs.Calm as calm
 use Rattle.fx_calm.specs.Calm.{all_procs, votes_in}
 use Rattle.fx_calm.proofs.Lists.{Each, equal}
 use Rattle.fx_calm.proofs.Seats.{length_all, seat_all}
-use Rattle.fx_calm.proofs.Standing.{HasJoined, IsTrue, AreTrue, Agreed, InPhase, IsCalm}
+use Rattle.fx_calm.proofs.Standing.{HasJoined, IsTrue, Agreed, InPhase, IsCalm}
 
 -- ---- what is read
 
@@ -104,8 +103,7 @@ one_more kind Has n (Some x) is None before slots e = absurd cc
 one_more kind Has n (Some x) is (Some xs) before slots e =
     let front = before xs refl in
     let last = is x refl in
-    let whole : xs ++ x ∷ [] ≡ slots = grind (arith, e) in
-    (
+    let whole : xs ++ x ∷ [] ≡ slots = grind (arith, e) in (
       sym whole ∙ ap (λ (l : List Slot). l ++ x ∷ []) front.0 ∙ ap (λ (y : Slot). of_each_below n kind ++ y ∷ []) last.0,
       λ k few. elim (cases_lt k n) [ inl less ↦ front.1 k less | inr more ↦ let same : n ≡ k = omega (arith, few, more) in subst Has same last.1 ],
     )
@@ -164,9 +162,9 @@ agrees job l n is phase h =
     turn_agrees job l (suc n.epoch) (length n.present) (seat_of n.present n.me) seen_at
     (λ slots e.
     let found = slots_are (calm.vote_in job (suc n.epoch)) (HasJoined job l (suc n.epoch)) seen_at (procs_of job) (λ k. is.lost (seat_at n.present k)) (λ k. refl)
-      (λ k x few e. subst (λ (q : ℕ). IsVote job l (suc n.epoch) q x) (ap (λ (who : List ℕ). seat_at who k) is.present ∙ seat_all (procs_of job) k few)
-      (vote_is job l n is (seat_at n.present k) x e)) slots
-      (subst (λ (m : ℕ). slots_of seen_at m ≡ Some slots) (ap length is.present ∙ length_all (procs_of job)) e) in
+    (λ k x few e. subst (λ (q : ℕ). IsVote job l (suc n.epoch) q x) (ap (λ (who : List ℕ). seat_at who k) is.present ∙ seat_all (procs_of job) k few)
+    (vote_is job l n is (seat_at n.present k) x e)) slots
+    (subst (λ (m : ℕ). slots_of seen_at m ≡ Some slots) (ap length is.present ∙ length_all (procs_of job)) e) in
     record { votes = found.0; joined = found.1 })
     (λ k slots e. estimate_is job l n is (seat_at n.present k) slots e)
     (λ k. ap (λ (b : Bool). b || false) (is.lost (seat_at n.present k)))

@@ -19,16 +19,16 @@ use Rattle.fx_fleet.specs.World.{World}
 use Rattle.fx_fleet.specs.Rounds.{Moment, Step, Rest, Deliver, Kill, Notice, Run}
 use Rattle.fx_legal.specs.Ledger.{ranks_of, procs_of}
 
--- neither a kill nor a notice of one
+-- no kill; where nobody was killed a notice has nothing to tell
 abbrev pub is_calm : Moment → Bool
 is_calm (Step p) = true
 is_calm (Rest p) = true
 is_calm (Deliver p q) = true
 is_calm (Kill p) = false
-is_calm (Notice p q) = false
+is_calm (Notice p q) = true
 is_calm (Run count) = true
 
--- the body asks nothing, whatever it sees and whatever state it begins in
+-- the body asks nothing and prints under names, whatever it sees and whatever state it begins in
 abbrev pub AsksNothing : Job → Type 0
 AsksNothing job = (view : View) (state : State) → OnlyPrints (walk_of (facts_of job) job.body view state)
 

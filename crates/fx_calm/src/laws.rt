@@ -1,4 +1,4 @@
-//! Laws of calm runs, whose events are steps, rests, deliveries and fair rounds alone.
+//! Laws of calm runs: no event is a kill.
 
 ghost use Rattle.std.specs.Prelude.{◌≡◌, ℕ, true};
 ghost use Rattle.std.specs.List.{list_all};
