@@ -11,8 +11,10 @@ use Rattle.fx_script.specs.declared.job.EventKind.TheVariants as event
 use Rattle.fx_script.specs.declared.job.Job.{Job}
 use Rattle.fx_store.specs.Mirror.{mirror}
 use Rattle.fx_store.specs.Redundancy.{Redundancy}
+use Rattle.fx_walk.specs.declared.action.View.{View}
 use Rattle.fx_walk.specs.Callbacks.{callbacks_at_init, body_start}
-use Rattle.fx_walk.specs.State.{blank}
+use Rattle.fx_walk.specs.Lengths.{OnlyPrints}
+use Rattle.fx_walk.specs.State.{State, blank}
 use Rattle.fx_walk.specs.Walk.{walk_of, member_array}
 use Rattle.fx_machine.specs.Packings.{spelling}
 use Rattle.fx_machine.specs.Setup.{Setup}
@@ -42,6 +44,10 @@ set_up redundancy job = record {
   body_state = body_start (facts_of job);
   body = walk_of (facts_of job) job.body;
 }
+
+-- the body asks nothing and prints under names, whatever it sees and whatever state it begins in
+abbrev pub AsksNothing : Job → Type 0
+AsksNothing job = (view : View) (state : State) → OnlyPrints (walk_of (facts_of job) job.body view state)
 
 -- ---- the schedule
 

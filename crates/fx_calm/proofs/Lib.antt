@@ -1,0 +1,11 @@
+pub mod Lists
+pub mod Seats
+pub mod Standing
+pub mod Turns
+pub mod Steps
+pub mod Begins
+pub mod Deeds
+pub mod Events
+pub mod Moments
+pub mod Legality
+pub mod Row
