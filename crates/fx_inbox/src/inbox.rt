@@ -68,6 +68,7 @@ impl Inbox {
         ensures ok { OnOk result ((n : Node) → IsInboxOf n self.old → IsInboxOf (receives from.0 (wire_text message) n) self.new) }
         ensures no_memory { OnErr result (self.new ≡ self.old) }
         ensures of_all { senders self.new ≡ senders self.old }
+        ensures same { self.new.me ≡ self.old.me }
     {
         if from == self.me {
             return Ok(());
