@@ -1,0 +1,81 @@
+-- A process that hears and is told stays where it stands.
+use Rattle.std.proofs.lemmas.Bool.Decides.{nat_tests}
+use Rattle.std.proofs.Common.{arith, ◌≡◌, ◌++◌, ◌∷◌, ◌==◌, [], ℕ, suc, Bool, true, false, List, refl, ap, ◌∙◌}
+use Rattle.std.specs.Prelude.{◌||◌, if◌then◌else◌}
+use Rattle.std.specs.List.{list_all}
+use Rattle.fx_ballot.specs.World.{put}
+use Rattle.fx_link.specs.declared.slot.Slot.{Slot}
+use Rattle.fx_machine.specs.Nodes.{Node, is_told, receives}
+use Rattle.fx_machine.specs.Reading.{first_read, is_past_at, next_ballot, only, vote_in}
+use Rattle.fx_machine.specs.Texts.{Text}
+use Rattle.fx_inbox.specs.declared.phase.Phase.{Phase}
+use Rattle.fx_inbox.specs.declared.phase.Phase.TheVariants as phase
+use Rattle.fx_node.specs.declared.stage.Stage.{Stage}
+use Rattle.fx_node.specs.declared.stage.Stage.TheVariants as stage
+use Rattle.fx_inbox.specs.Keeping.{IsInboxOf, Kept}
+use Rattle.fx_node.specs.Standing.{HasVoted, HoldsVote, IsNodeOf, OwnAreUpTo, Standing, StandsAs, WalksAlong}
+use Rattle.fx_script.specs.declared.job.Job.{Job}
+
+-- ---- with other losses and other texts of others
+
+-- the node with these losses and texts
+abbrev with : (ℕ → Bool) → (ℕ → List Text) → Node → Node
+with lost texts n = record n { lost = lost; texts = texts }
+
+own_are : (epoch : ℕ) (lost : ℕ → Bool) (texts : ℕ → List Text) (n : Node) → texts n.me ≡ n.texts n.me → OwnAreUpTo epoch n → OwnAreUpTo epoch (with lost texts n)
+own_are epoch lost texts n own h = ap (λ mine. list_all (is_past_at epoch 0) mine) own ∙ h
+
+holds : (lost : ℕ → Bool) (texts : ℕ → List Text) (n : Node) (vote : Slot) (phase : Phase) → HoldsVote n vote phase → HoldsVote (with lost texts n) vote phase
+holds lost texts n vote phase.Voting h = h
+holds lost texts n vote (phase.Round round slots) h = h
+
+has_voted : (lost : ℕ → Bool) (texts : ℕ → List Text) (n : Node) (phase : Phase) → texts n.me ≡ n.texts n.me → HasVoted n phase → HasVoted (with lost texts n) phase
+has_voted lost texts n phase own h = record {
+  vote = h.vote;
+  own = ap (λ mine. first_read (λ t. only (λ x. (n.me == n.me) || (next_ballot n).is_vote x) (vote_in (next_ballot n).about t)) mine) own ∙ h.own;
+  valid = h.valid;
+  holds = holds lost texts n h.vote phase h.holds;
+  counted = h.counted;
+  told = own_are (suc n.epoch) lost texts n own h.told;
+}
+
+walks : (lost : ℕ → Bool) (texts : ℕ → List Text) (box : Kept) (c : Standing) (n : Node) → WalksAlong c n → WalksAlong (record c { inbox = box }) (with lost texts n)
+walks lost texts box c n h = record { sees = h.sees; does = h.does; prints = h.prints }
+
+stands : (lost : ℕ → Bool) (texts : ℕ → List Text) (box : Kept) (at : Stage) (c : Standing) (n : Node) → texts n.me ≡ n.texts n.me
+    → StandsAs at c n → StandsAs at (record c { inbox = box }) (with lost texts n)
+stands lost texts box stage.Begins c n own h = (h.0, h.1, own_are n.epoch lost texts n own h.2, h.3)
+stands lost texts box (stage.Joining phase) c n own h = (h.0, h.1, has_voted lost texts n phase own h.2)
+stands lost texts box stage.Arrived c n own h = (h.0, h.1, own_are n.epoch lost texts n own h.2, h.3)
+stands lost texts box stage.Walking c n own h = (h.0, walks lost texts box c n h.1, own_are n.epoch lost texts n own h.2, h.3)
+stands lost texts box stage.Over c n own h = h
+
+still_is : (job : Job) (lost : ℕ → Bool) (texts : ℕ → List Text) (box : Kept) (c : Standing) (n : Node) → texts n.me ≡ n.texts n.me
+    → IsNodeOf job c n → IsInboxOf (with lost texts n) box → IsNodeOf job (record c { inbox = box }) (with lost texts n)
+still_is job lost texts box c n own h knows = record {
+  me = h.me;
+  ranks = h.ranks;
+  epoch = h.epoch;
+  comm = h.comm;
+  present = h.present;
+  member = h.member;
+  role = h.role;
+  is_flow = h.is_flow;
+  knows = knows;
+  stands = stands lost texts box c.stage c n own h.stands;
+}
+
+-- ---- what comes in
+
+own_stays : (texts : ℕ → List Text) (more : List Text) (from me : ℕ) (b : Bool) → (from == me) ≡ b → (if b then texts else put texts from more) me ≡ texts me
+own_stays texts more from me true e = refl
+own_stays texts more from me false e = grind (arith, nat_tests, e)
+
+pub hears : (job : Job) (c : Standing) (n : Node) (from : ℕ) (t : Text) (box : Kept) → IsNodeOf job c n → IsInboxOf (receives from t n) box
+    → IsNodeOf job (record c { inbox = box }) (receives from t n)
+hears job c n from t box h knows =
+    still_is job n.lost (receives from t n).texts box c n (own_stays n.texts (n.texts from ++ t ∷ []) from n.me (from == n.me) refl) h knows
+
+pub is_told_of : (job : Job) (c : Standing) (n : Node) (q : ℕ) (box : Kept) → IsNodeOf job c n → IsInboxOf (is_told q n) box
+    → IsNodeOf job (record c { inbox = box }) (is_told q n)
+is_told_of job c n q box h knows = still_is job (is_told q n).lost n.texts box c n refl h knows

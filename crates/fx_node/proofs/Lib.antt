@@ -1,0 +1,12 @@
+mod Acts
+mod Begun
+pub mod Deciding
+pub mod Electing
+mod First
+mod Heard
+pub mod Joining
+pub mod Taking
+pub mod Telling
+pub mod Testing
+pub mod Turning
+pub mod Turned

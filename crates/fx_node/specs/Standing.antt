@@ -1,0 +1,133 @@
+-- A process as it runs, and the node that it is defined to be.
+use Rattle.std.specs.Prelude.{◌≡◌, ◌<◌, ◌≤◌, ℕ, suc, Bool, false, true, List, All, Some, length, slice_get}
+use Rattle.std.specs.List.{list_all}
+use Rattle.fx_ballot.specs.declared.poll.Poll.{Poll}
+use Rattle.fx_ballot.specs.Names.{Distinct, has, seat_of}
+use Rattle.fx_base.specs.declared.names.Role.{Role}
+use Rattle.fx_check.specs.Rules.{count_of}
+use Rattle.fx_comm.specs.Seats.{Seat}
+use Rattle.fx_flow.specs.Flowing.{Flowing, DoesRest, IsFlowOf, state_of}
+use Rattle.fx_inbox.specs.declared.phase.Phase.{Phase}
+use Rattle.fx_inbox.specs.declared.phase.Phase.TheVariants as phase
+use Rattle.fx_inbox.specs.Keeping.{Kept, IsInboxOf, senders}
+use Rattle.fx_inbox.specs.Turns.{IsTurn, Stays, phase_of}
+use Rattle.fx_link.specs.declared.slot.Slot.{Slot}
+use Rattle.fx_machine.specs.Ballots.{may_join}
+use Rattle.fx_machine.specs.Nodes as node
+use Rattle.fx_machine.specs.Nodes.{Node, my_place, size}
+use Rattle.fx_machine.specs.Reading.{is_join, is_past_at, next_ballot, turn_in, vote_of}
+use Rattle.fx_node.specs.declared.stage.Stage.{Stage}
+use Rattle.fx_node.specs.declared.stage.Stage.TheVariants as stage
+use Rattle.fx_script.specs.declared.job.Job.{Job}
+use Rattle.fx_walk.specs.Callbacks.{view_at_init}
+use Rattle.fx_walk.specs.declared.action.View.{View}
+use Rattle.fx_walk.specs.Lengths.{OnlyPrints}
+use Rattle.fx_walk.specs.Walk.{Ends}
+
+-- all that a process keeps, and whether memory ran out
+pub record Standing : Type 0 where
+  pub me : ℕ
+  pub ranks : ℕ
+  pub epoch : ℕ
+  pub comm : List Seat
+  pub present : List ℕ
+  pub role : Role
+  pub stage : Stage
+  pub view : View
+  pub flow : Flowing
+  pub inbox : Kept
+  pub failed : Bool
+
+-- of how many processes it is one
+abbrev pub processes : Standing → ℕ
+processes c = senders c.inbox
+
+-- it is one of its processes, of at most 32, and so are the members of its ballots, none of whom stands there twice
+pub record IsSound (c : Standing) : Type 0 where
+  pub few : processes c ≤ 32
+  pub one_of_them : c.me < processes c
+  pub same : c.inbox.me ≡ c.me
+  pub members : All (λ q. q < processes c) c.present
+  pub count : length c.present ≤ 32
+  pub apart : Distinct c.present
+
+-- its walk stands at its end, in the state that the flow keeps
+abbrev pub IsStill : Standing → Node → Type 0
+IsStill c n = n.walk ≡ Ends (state_of c.flow)
+
+-- its own votes and estimates are of this epoch's ballot and those before it
+abbrev pub OwnAreUpTo : ℕ → Node → Type 0
+OwnAreUpTo epoch n = list_all (is_past_at epoch 0) (n.texts n.me) ≡ true
+
+-- in the estimate that it holds stands its own vote
+abbrev pub HoldsVote : Node → Slot → Phase → Type 0
+HoldsVote n vote phase.Voting = Unit {0}
+HoldsVote n vote (phase.Round round slots) = slice_get slots (seat_of n.present n.me) ≡ Some vote
+
+-- it has voted in the ballot of the next epoch, of which it is a member
+pub record HasVoted (n : Node) (phase : Phase) : Type 0 where
+  pub vote : Slot
+  pub own : vote_of (next_ballot n) n n.me ≡ Some vote
+  pub valid : is_join (suc n.epoch) vote ≡ true
+  pub holds : HoldsVote n vote phase
+  pub counted : may_join n ≡ true
+  pub told : OwnAreUpTo (suc n.epoch) n
+
+-- it does what is left of the node's walk, which only prints
+pub record WalksAlong (c : Standing) (n : Node) : Type 0 where
+  pub sees : c.view ≡ view_at_init n.role (my_place n) (size n)
+  pub does : DoesRest c.view n.walk c.flow
+  pub prints : OnlyPrints n.walk
+
+-- it stands where the node stands; no epoch has begun before its first join, and one has behind it
+abbrev pub StandsAs : Stage → Standing → Node → Type 0
+StandsAs stage.Begins c n = (n.stage ≡ node.Begins) × IsStill c n × OwnAreUpTo n.epoch n × (n.epoch ≡ 0)
+StandsAs (stage.Joining phase) c n = (n.stage ≡ node.Joining (phase_of phase)) × IsStill c n × HasVoted n phase
+StandsAs stage.Arrived c n = (n.stage ≡ node.Arrived) × IsStill c n × OwnAreUpTo n.epoch n × (0 < n.epoch)
+StandsAs stage.Walking c n = (n.stage ≡ node.Walking) × WalksAlong c n × OwnAreUpTo n.epoch n × (0 < n.epoch)
+StandsAs stage.Over c n = n.stage ≡ node.Over
+
+-- it is this node of a job
+pub record IsNodeOf (job : Job) (c : Standing) (n : Node) : Type 0 where
+  pub me : n.me ≡ c.me
+  pub ranks : c.ranks ≡ count_of job.ranks
+  pub epoch : n.epoch ≡ c.epoch
+  pub comm : n.comm ≡ c.comm
+  pub present : n.present ≡ c.present
+  pub member : has n.present n.me ≡ true
+  pub role : n.role ≡ c.role
+  pub is_flow : IsFlowOf job c.flow
+  pub knows : IsInboxOf n c.inbox
+  pub stands : StandsAs c.stage c n
+
+-- ---- what its steps rest on
+
+-- it is in the ballot of the next epoch
+abbrev pub IsJoining : Stage → Type 0
+IsJoining (stage.Joining phase) = Unit {0}
+IsJoining other = ⊥
+
+-- it may vote so in the ballot of the next epoch: it hasn't ended, stands still, and hasn't voted there
+pub record MayVote (kind : Slot) (c : Standing) (n : Node) : Type 0 where
+  pub goes_on : node.has_ended n ≡ false
+  pub still : IsStill c n
+  pub valid : is_join (suc n.epoch) kind ≡ true
+  pub unheard : OwnAreUpTo n.epoch n
+
+-- the ballot of the next epoch is decided with these slots, its own vote among them
+pub record IsDeciding (n : Node) (vote : Slot) (slots : List Slot) (c : Standing) : Type 0 where
+  pub still : IsStill c n
+  pub valid : is_join (suc n.epoch) vote ≡ true
+  pub own : slice_get slots (seat_of n.present n.me) ≡ Some vote
+  pub counted : may_join n ≡ true
+  pub told : OwnAreUpTo (suc n.epoch) n
+
+-- it took its turn in the ballot of the next epoch, and said this
+pub record HasTurned (c after : Standing) (said : Poll) : Type 0 where
+  pub before : Phase
+  pub later : Phase
+  pub at : c.stage ≡ stage.Joining before
+  pub apart : Distinct c.present
+  pub same : after ≡ record c { stage = stage.Joining later }
+  pub takes : (n : Node) → IsInboxOf n c.inbox → n.epoch ≡ c.epoch → n.present ≡ c.present → IsTurn (turn_in (next_ballot n) n (phase_of before)) said later
+  pub stays : Stays said before later

@@ -1,0 +1,10 @@
+//! A process as it runs: it moves by its own state, by what others send to it, and by what it is told of losses, alone.
+#![tactic(auto)]
+
+mod node;
+mod stage;
+
+pub use node::{Moved, Node, Outbox};
+
+#[cfg(test)]
+mod tests;

@@ -1,0 +1,16 @@
+use fx_inbox::Phase;
+
+/// Where a process stands.
+#[derive(Debug, Drop)]
+pub enum Stage {
+    /// It hasn't joined yet.
+    Begins,
+    /// It is in the ballot of the next epoch.
+    Joining(Phase),
+    /// The epoch has begun. A spare stays here.
+    Arrived,
+    /// `Init` has returned, and it is in the body.
+    Walking,
+    /// It has ended.
+    Over,
+}
