@@ -5,6 +5,3 @@ mod node;
 mod stage;
 
 pub use node::{Moved, Node, Outbox};
-
-#[cfg(test)]
-mod tests;
