@@ -7,6 +7,3 @@ mod stage;
 
 pub use ballot::Ballot;
 pub use fx_ballot::Poll;
-
-#[cfg(test)]
-mod tests;

@@ -13,6 +13,3 @@ mod selection;
 
 pub use flow::Flow;
 pub use fx_walk::{At, CallbackRun, Called, Printed, Prints, View, Wanted};
-
-#[cfg(test)]
-mod tests;

@@ -11,6 +11,3 @@ pub use elements::scatter;
 pub use fault::{MakeSubset, SubsetFault};
 pub use make::{empty, full, ranges, strided};
 pub use subset::Subset;
-
-#[cfg(test)]
-mod tests;

@@ -1,6 +1,6 @@
-ghost use Rattle.std.specs.Prelude.{◌≡◌, ◌++◌, map, true, OnOk};
+ghost use Rattle.std.specs.Prelude.{◌≡◌, ◌++◌, map, OnOk};
 ghost use Rattle.fx_text.specs.Written.{Keeps, spaced};
-ghost use Rattle.fx_lines.specs.Items.{is_writable, line_of};
+ghost use Rattle.fx_lines.specs.Items.{line_of};
 ghost use Rattle.fx_trace.specs.Printed.{holding_text, item_text, message_text, row_text, row_words, word_of};
 
 use crate::field::Field;
@@ -13,10 +13,10 @@ use fx_text::put_word;
 
 /// Prints the line of an item, without a line end, at the end of `out`.
 ///
-/// Each field must have its form: a `join` tells one of the four slots that a process joins with, a name is a name, and
-/// slots, or seats, that are joined by commas are at least one. Without memory all that stood in `out` stays in front.
+/// Where each field has its form, `read_item` reads the same item back: a `join` tells one of the four slots that a process
+/// joins with, a name is a name, and slots, or seats, that are joined by commas are at least one. Without memory all that
+/// stood in `out` stays in front.
 pub fn print_item(item: &Item, out: &mut Bytes) -> Result<(), NoMemory>
-    requires { is_writable item.now ≡ true }
     ensures ok { OnOk result (out.new ≡ out.old ++ line_of item.now) }
     ensures keeps { Keeps out.old out.new }
 {

@@ -12,6 +12,3 @@ pub use column::Columns;
 pub use formula::Formula;
 pub use slots::{array_slot, counter_slot, is_array};
 pub use values::Values;
-
-#[cfg(test)]
-mod tests;

@@ -1,6 +1,6 @@
-use super::*;
 use fx_base::{Bytes, Elems, Role, Sparse};
 use fx_script::{Job, Stmt, read_job};
+use fx_value::{Columns, Formula, Values, array_slot, counter_slot, is_array};
 use fx_walk::View;
 use std::alloc::Global;
 use std::test::Fail;

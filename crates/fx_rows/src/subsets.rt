@@ -1,5 +1,5 @@
-use super::*;
 use fx_base::{Elems, Pairs};
+use fx_subset::{MakeSubset, SubsetFault, empty, full, ranges, scatter, strided};
 use std::alloc::Global;
 use std::test::Fail;
 

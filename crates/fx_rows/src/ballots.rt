@@ -1,6 +1,6 @@
 ghost use Rattle.std.specs.Prelude.{◌≡◌, length, IfOk};
 
-use super::*;
+use fx_agree::{Ballot, Poll};
 use fx_link::{Slot, Slots};
 use std::test::Fail;
 

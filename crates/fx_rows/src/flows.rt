@@ -1,8 +1,8 @@
 ghost use Rattle.std.specs.Prelude.{◌<◌, length, IfOk};
 
-use super::*;
 use fx_base::{Bytes, Role};
 use fx_check::{Accepted, check_job};
+use fx_flow::{At, Flow, Printed, View};
 use fx_script::read_job;
 use std::alloc::Global;
 use std::process::Abort;
