@@ -1,5 +1,7 @@
--- The journal of a calm run is legal.
-use Rattle.std.proofs.Common.{arith, ◌≡◌, ◌≤◌, ℕ, zero, suc, Bool, true, false, ◌&&◌, List, [], ◌∷◌, map, refl, ap, subst}
+-- The journal of a calm run is legal, and shows all ends.
+use Rattle.std.proofs.lemmas.Bool.Decides.{nat_tests}
+use Rattle.std.proofs.Common.{arith, ◌≡◌, ◌≤◌, ◌<◌, ℕ, zero, suc, Bool, true, false, not, ◌&&◌, List, [], ◌∷◌, map, refl, sym, ap, subst, ◌∙◌}
+use Rattle.std.specs.Prelude.{nat_lt}
 use Rattle.std.specs.List.{list_all}
 use Rattle.fx_script.specs.declared.job.Event.{Event}
 use Rattle.fx_script.specs.declared.job.EventKind.{EventKind}
@@ -9,19 +11,21 @@ use Rattle.fx_script.specs.Spelling.{IsWritable}
 use Rattle.fx_check.specs.Facts.{facts_of}
 use Rattle.fx_check.specs.Work.{bound_of}
 use Rattle.fx_ballot.specs.Turn.{Phase, Round}
+use Rattle.fx_store.proofs.Mirrors.{each_at, each_from}
 use Rattle.fx_walk.specs.Lengths.{is_plain}
 use Rattle.fx_walk.specs.Walk.{Walk}
 use Rattle.fx_walk.proofs.Plain.{only_prints}
-use Rattle.fx_machine.specs.Nodes.{Node, Stage, Begins, Joining, Arrived, Walking, Calling, Failed, Over}
+use Rattle.fx_machine.specs.Nodes.{Node, Stage, Begins, Joining, Arrived, Walking, Calling, Failed, Over, has_ended}
 use Rattle.fx_machine.specs.Reading.{next_ballot, turn_in}
-use Rattle.fx_fleet.specs.World.{World, first_world}
-use Rattle.fx_fleet.specs.Rounds.{whole}
+use Rattle.fx_fleet.specs.World.{World, first_world, up}
+use Rattle.fx_fleet.specs.Rounds.{all_over, whole}
 use Rattle.fx_fleet.specs.Runs.{AsksNothing, job_setup, moment_of, moments_of, rest_bound_of, journal_of}
 use Rattle.fx_legal.specs.Effects.{due_kills}
-use Rattle.fx_legal.specs.Ledger.{Ledger, kills_in}
-use Rattle.fx_legal.specs.Legal.{IsLegalWhole, ledger_of}
+use Rattle.fx_legal.specs.Ledger.{Ledger, procs_of, kills_in}
+use Rattle.fx_legal.specs.Legal.{IsLegalWhole, AllHaveEnded, ledger_of}
+use Rattle.fx_legal.specs.Stands.{is_gone}
 use Rattle.fx_calm.specs.Calm.{is_calm, IsPeaceful, HoldsAllVotes}
-use Rattle.fx_calm.proofs.Standing.{InPhase, IsEarly, AtStage, IsCalm, Tied, Legally}
+use Rattle.fx_calm.proofs.Standing.{InPhase, IsEarly, AtStage, IsCalm, Tied, Legally, gone_where_over}
 use Rattle.fx_calm.proofs.Turns.{Agrees, agrees}
 use Rattle.fx_calm.proofs.Events.{acts_legally, hears_legally}
 use Rattle.fx_calm.proofs.Moments.{IsCalmlyKept, calm_always}
@@ -115,6 +119,38 @@ holds_all_votes job l w tied = record {
       let here = agrees job l (w.node p) (tied.each p) phase (phase_is job l (w.node p) (tied.each p) phase e) in
       (subst (Agrees job l (suc (w.node p).epoch) (turn_in (next_ballot (w.node p)) (w.node p) phase).phase) decides here).votes;
 }
+
+-- ---- who has ended
+
+-- a process of the job is gone by the ledger just where it isn't up
+gone_where_not_up : (job : Job) (l : Ledger) (w : World) → Tied job l w → (p : ℕ) → p < procs_of job → is_gone (l.stands p) ≡ not (up (job_setup job) w p)
+gone_where_not_up job l w tied p few =
+    subst (λ (m : ℕ). is_gone (l.stands m) ≡ has_ended (w.node p)) (tied.me p)
+    (gone_where_over job l (w.node p).me (w.node p).epoch (w.node p).walk (w.node p).stage (tied.each p).at)
+    ∙ down (nat_lt p (procs_of job)) (w.killed p) (has_ended (w.node p)) (less_true p (procs_of job) few) (tied.killed p)
+  where
+    less_true : (a b : ℕ) → a < b → nat_lt a b ≡ true
+    less_true a b e = grind (arith, nat_tests, e)
+
+    down : (a b c : Bool) → a ≡ true → b ≡ false → c ≡ not (a && (not b && not c))
+    down true false true few living = refl
+    down true false false few living = refl
+    down true true c few living = absurd cc
+    down false b c few living = absurd cc
+
+-- the world behind the whole run
+abbrev last : Job → World
+last job = whole (job_setup job) (rest_bound_of job) (bound_of job) (moments_of job)
+
+pub shows_all_ends : (job : Job) → AsksNothing job → list_all is_calm (moments_of job) ≡ true → all_over (job_setup job) (last job) ≡ true → AllHaveEnded job (journal_of job)
+shows_all_ends job asks calm over p few =
+    gone_where_not_up job (ledger_of job (journal_of job)) (last job) (calmly job asks calm (rest_bound_of job) (bound_of job)).tied p few
+    ∙ each_at (procs_of job) (λ q. not (up (job_setup job) (last job) q)) p over few
+
+pub shows_true_ends : (job : Job) → AsksNothing job → list_all is_calm (moments_of job) ≡ true → AllHaveEnded job (journal_of job) → all_over (job_setup job) (last job) ≡ true
+shows_true_ends job asks calm ended =
+    each_from (procs_of job) (λ q. not (up (job_setup job) (last job) q))
+    (λ q few. sym (gone_where_not_up job (ledger_of job (journal_of job)) (last job) (calmly job asks calm (rest_bound_of job) (bound_of job)).tied q few) ∙ ended q few)
 
 -- ---- bodies
 

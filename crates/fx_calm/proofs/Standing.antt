@@ -11,14 +11,14 @@ use Rattle.fx_script.specs.declared.job.Job.{Job}
 use Rattle.fx_walk.specs.Lengths.{OnlyPrints}
 use Rattle.fx_walk.specs.State.{State, blank}
 use Rattle.fx_walk.specs.Walk.{Walk}
-use Rattle.fx_machine.specs.Nodes.{Node, Act, Stage, Begins, Joining, Arrived, Walking, Calling, Failed, Over}
+use Rattle.fx_machine.specs.Nodes.{Node, Act, Stage, Begins, Joining, Arrived, Walking, Calling, Failed, Over, is_over}
 use Rattle.fx_machine.specs.Texts.{Text, Join, Jest, Part, Vote, Est, Share, Tell, Help, Give}
 use Rattle.fx_fleet.specs.World.{World, sent_to}
 use Rattle.fx_fleet.specs.Rounds.{is_of_journal}
 use Rattle.fx_legal.specs.Ledger.{Chapter, Ledger, procs_of, first_chapter, first_ledger}
 use Rattle.fx_legal.specs.Legal.{GoesOn, ledger_of, written_all}
 use Rattle.fx_legal.specs.Stands as stand
-use Rattle.fx_legal.specs.Stands.{Stay, Stand, shown, is_killed}
+use Rattle.fx_legal.specs.Stands.{Stay, Stand, shown, is_killed, is_gone}
 use Rattle.fx_calm.specs.Calm.{seats_in, all_procs, vote_in, votes_in}
 use Rattle.fx_calm.proofs.Lists.{Each, each_weaker}
 
@@ -226,3 +226,17 @@ lives job l p e walk Walking h = ap is_killed h.stand
 lives job l p e walk (Calling core) h = absurd h
 lives job l p e walk Failed h = absurd h
 lives job l p e walk Over h = ap is_killed h.stand
+
+settled_stays : (job : Job) (l : Ledger) (p e : ℕ) → Settled job l p e → (b : Bool) → has_place (seats_in job) p ≡ b → is_gone (l.stands p) ≡ false
+settled_stays job l p e h true is = ap is_gone (h.seated is)
+settled_stays job l p e h false is = ap is_gone (h.spare is)
+
+-- it is gone by the ledger just where its stage is the end
+pub gone_where_over : (job : Job) (l : Ledger) (p e : ℕ) (walk : Walk) (x : Stage) → AtStage job l p e walk x → is_gone (l.stands p) ≡ is_over x
+gone_where_over job l p e walk Begins h = ap is_gone h.1
+gone_where_over job l p e walk (Joining phase) h = ap is_gone h.stand
+gone_where_over job l p e walk Arrived h = settled_stays job l p e h (has_place (seats_in job) p) refl
+gone_where_over job l p e walk Walking h = ap is_gone h.stand
+gone_where_over job l p e walk (Calling core) h = absurd h
+gone_where_over job l p e walk Failed h = absurd h
+gone_where_over job l p e walk Over h = ap is_gone h.stand

@@ -27,7 +27,7 @@ rising_keep Is turn keep (suc n) x is = keep n (in_rising_order turn n x) (risin
 
 -- ---- the single events
 
-step_keeps : (s : Setup) (Is : World → Type 0) → IsKept s Is → (p : ℕ) (w : World) → Is w → Is (steps s p w)
+pub step_keeps : (s : Setup) (Is : World → Type 0) → IsKept s Is → (p : ℕ) (w : World) → Is w → Is (steps s p w)
 step_keeps s Is k p w is = if_keeps Is (up s w p) (does_if s p (next s (w.node p)) w) w (λ on. done (next s (w.node p)) refl on) (λ off. is)
   where
     done : (x : Option Act) → next s (w.node p) ≡ x → up s w p ≡ true → Is (does_if s p x w)
@@ -39,11 +39,11 @@ front_keeps : (s : Setup) (Is : World → Type 0) → IsKept s Is → (p q : ℕ
 front_keeps s Is k p q w on [] e is = is
 front_keeps s Is k p q w on (t ∷ rest) e is = k.hears p q t rest w on e is
 
-delivery_keeps : (s : Setup) (Is : World → Type 0) → IsKept s Is → (p q : ℕ) (w : World) → Is w → Is (delivers s p q w)
+pub delivery_keeps : (s : Setup) (Is : World → Type 0) → IsKept s Is → (p q : ℕ) (w : World) → Is w → Is (delivers s p q w)
 delivery_keeps s Is k p q w is =
     if_keeps Is (up s w q) (receives_front p q (w.link p q) w) w (λ on. front_keeps s Is k p q w on (w.link p q) refl is) (λ off. is)
 
-kill_keeps : (s : Setup) (Is : World → Type 0) → IsKept s Is → (p : ℕ) (w : World) → Is w → Is (kills s p w)
+pub kill_keeps : (s : Setup) (Is : World → Type 0) → IsKept s Is → (p : ℕ) (w : World) → Is w → Is (kills s p w)
 kill_keeps s Is k p w is = if_keeps Is (up s w p) (loses s p w) w (λ on. k.kills p w on is) (λ off. is)
 
 was_killed : (s : Setup) (p q : ℕ) (w : World) → may_learn s p q w ≡ true → w.killed p ≡ true
@@ -55,50 +55,50 @@ is_up s p q w e = grind (arith, nat_tests, e)
 is_untold : (s : Setup) (p q : ℕ) (w : World) → may_learn s p q w ≡ true → (w.node q).lost p ≡ false
 is_untold s p q w e = grind (arith, nat_tests, e)
 
-notice_keeps : (s : Setup) (Is : World → Type 0) → IsKept s Is → (p q : ℕ) (w : World) → Is w → Is (notices s p q w)
+pub notice_keeps : (s : Setup) (Is : World → Type 0) → IsKept s Is → (p q : ℕ) (w : World) → Is w → Is (notices s p q w)
 notice_keeps s Is k p q w is =
     if_keeps Is (may_learn s p q w) (learns p q w) w (λ e. k.tells p q w (was_killed s p q w e) (is_up s p q w e) (is_untold s p q w e) is) (λ e. is)
 
 -- ---- fair rounds
 
 -- a delivery leaves who is up, and the rest of the link
-still_up : (s : Setup) (p q : ℕ) (t : Text) (rest : List Text) (w : World) → up s w q ≡ true → up s (receives_front p q (t ∷ rest) w) q ≡ true
+pub still_up : (s : Setup) (p q : ℕ) (t : Text) (rest : List Text) (w : World) → up s w q ≡ true → up s (receives_front p q (t ∷ rest) w) q ≡ true
 still_up s p q t rest w on = grind (arith, nat_tests, on)
 
-rest_left : (p q : ℕ) (t : Text) (rest : List Text) (w : World) → (receives_front p q (t ∷ rest) w).link p q ≡ rest
+pub rest_left : (p q : ℕ) (t : Text) (rest : List Text) (w : World) → (receives_front p q (t ∷ rest) w).link p q ≡ rest
 rest_left p q t rest w = grind (arith, nat_tests)
 
 -- while q attends it is up
-abbrev Attends : (World → Type 0) → Setup → ℕ → World → Type 0
+abbrev pub Attends : (World → Type 0) → Setup → ℕ → World → Type 0
 Attends Is s q w = (up s w q ≡ true) × Is w
 
-all_attend : (s : Setup) (Is : World → Type 0) → IsKept s Is → (p q : ℕ) (ts : List Text) (w : World) → w.link p q ≡ ts → Attends Is s q w
+pub all_attend : (s : Setup) (Is : World → Type 0) → IsKept s Is → (p q : ℕ) (ts : List Text) (w : World) → w.link p q ≡ ts → Attends Is s q w
     → Attends Is s q (receives_all p q ts w)
 all_attend s Is k p q [] w e is = is
 all_attend s Is k p q (t ∷ rest) w e is =
     all_attend s Is k p q rest (receives_front p q (t ∷ rest) w) (rest_left p q t rest w) (still_up s p q t rest w is.0, k.hears p q t rest w is.0 e is.1)
 
-drain_keeps : (s : Setup) (Is : World → Type 0) → IsKept s Is → (q p : ℕ) (w : World) → Attends Is s q w → Attends Is s q (drains q p w)
+pub drain_keeps : (s : Setup) (Is : World → Type 0) → IsKept s Is → (q p : ℕ) (w : World) → Attends Is s q w → Attends Is s q (drains q p w)
 drain_keeps s Is k q p w is = if_keeps (Attends Is s q) (p == q) w (receives_all p q (w.link p q) w) (λ e. is) (λ e. all_attend s Is k p q (w.link p q) w refl is)
 
-rest_keeps : (s : Setup) (Is : World → Type 0) → IsKept s Is → (fuel p : ℕ) (w : World) → Is w → Is (rests s fuel p w)
+pub rest_keeps : (s : Setup) (Is : World → Type 0) → IsKept s Is → (fuel p : ℕ) (w : World) → Is w → Is (rests s fuel p w)
 rest_keeps s Is k fuel p w is = until_keeps Is (is_quiet s p) (steps s p) (λ x. step_keeps s Is k p x) fuel w is
 
-attend_keeps : (s : Setup) (Is : World → Type 0) → IsKept s Is → (q : ℕ) (w : World) → up s w q ≡ true → Is w → Is (attends s q w)
+pub attend_keeps : (s : Setup) (Is : World → Type 0) → IsKept s Is → (q : ℕ) (w : World) → up s w q ≡ true → Is w → Is (attends s q w)
 attend_keeps s Is k q w on is =
     rising_keep Is (λ p. notices s p q) (λ p x. notice_keeps s Is k p q x) s.procs (in_rising_order (drains q) s.procs w)
     (rising_keep (Attends Is s q) (drains q) (λ p x. drain_keeps s Is k q p x) s.procs w (on, is)).1
 
-turn_keeps : (s : Setup) (Is : World → Type 0) → IsKept s Is → (fuel q : ℕ) (w : World) → Is w → Is (fair_turn s fuel q w)
+pub turn_keeps : (s : Setup) (Is : World → Type 0) → IsKept s Is → (fuel q : ℕ) (w : World) → Is w → Is (fair_turn s fuel q w)
 turn_keeps s Is k fuel q w is =
     if_keeps Is (up s w q) (rests s fuel q (attends s q w)) w (λ on. rest_keeps s Is k fuel q (attends s q w) (attend_keeps s Is k q w on is)) (λ off. is)
 
-round_keeps : (s : Setup) (Is : World → Type 0) → IsKept s Is → (fuel : ℕ) (w : World) → Is w → Is (fair_round s fuel w)
+pub round_keeps : (s : Setup) (Is : World → Type 0) → IsKept s Is → (fuel : ℕ) (w : World) → Is w → Is (fair_round s fuel w)
 round_keeps s Is k fuel w is = rising_keep Is (fair_turn s fuel) (λ q x. turn_keeps s Is k fuel q x) s.procs w is
 
 -- ---- the schedule and the tail
 
-event_keeps : (s : Setup) (Is : World → Type 0) → IsKept s Is → (fuel : ℕ) (e : Moment) (w : World) → Is w → Is (happens s fuel e w)
+pub event_keeps : (s : Setup) (Is : World → Type 0) → IsKept s Is → (fuel : ℕ) (e : Moment) (w : World) → Is w → Is (happens s fuel e w)
 event_keeps s Is k fuel (Step p) w is = step_keeps s Is k p w is
 event_keeps s Is k fuel (Rest p) w is = rest_keeps s Is k fuel p w is
 event_keeps s Is k fuel (Deliver p q) w is = delivery_keeps s Is k p q w is

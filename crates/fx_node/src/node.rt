@@ -193,6 +193,14 @@ impl Node {
         self.inbox.lose(who);
     }
 
+    /// Whether it was told that a process is lost.
+    pub fn has_lost(&self, who: Proc) -> bool
+        requires { who.0 < processes self.now }
+        ensures { (job : Job) (n : defined.Node) → IsNodeOf job self.now n → result ≡ n.lost who.0 }
+    {
+        self.inbox.is_lost(who.0)
+    }
+
     fn act(&mut self, sends: &mut Outbox, items: &mut Items) -> Result<Moved, NoMemory>
         ensures steps { IfOk result (λ moved. (job : Job) (n : defined.Node) → AsksNothing job → IsNodeOf job self.old n
             → Steps job n (next (job_setup job) n) moved self.new sends.old sends.new items.old items.new) }

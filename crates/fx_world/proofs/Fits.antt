@@ -1,0 +1,129 @@
+-- Texts and messages are one to one for what is sent so far: votes and estimates of ballots of epochs.
+use Rattle.std.proofs.Common.{◌≡◌, ℕ, suc, Bool, true, false, List, [], ◌∷◌, map, Option, Some, None, refl, sym, ap, subst, ◌∙◌}
+use Rattle.std.specs.Prelude.{if◌then◌else◌, ◌==◌, not, option_map, ℤ}
+use Rattle.std.specs.FinMap as finite
+use Rattle.std.specs.List.{filter}
+use Rattle.fx_ballot.specs.declared.poll.Poll.{Poll}
+use Rattle.fx_ballot.specs.declared.poll.Poll.TheVariants as poll
+use Rattle.fx_ballot.specs.Names.{seat_of}
+use Rattle.fx_ballot.specs.Turn.{Turn}
+use Rattle.fx_base.specs.declared.names.Stamp.{Stamp}
+use Rattle.fx_base.specs.declared.shares.StampShares.{StampShares}
+use Rattle.fx_comm.specs.Seats.{has_place}
+use Rattle.fx_link.specs.declared.message.Known.{Known as KnownMessage}
+use Rattle.fx_link.specs.declared.message.Message.{Message}
+use Rattle.fx_link.specs.declared.message.Message.TheVariants as message
+use Rattle.fx_link.specs.declared.slot.Slot.{Slot}
+use Rattle.fx_link.specs.declared.slot.Slot.TheVariants as slot
+use Rattle.fx_machine.specs.Ballots.{arrived, decides_epoch, ends, is_end, joined, joins, may_join, repairs, turned, voters}
+use Rattle.fx_machine.specs.Messages.{known_message, known_text, message_of, packed_of, shares_of, wire_text}
+use Rattle.fx_machine.specs.Nodes as node
+use Rattle.fx_machine.specs.Nodes.{Node, Act, to_others}
+use Rattle.fx_machine.specs.Reading.{is_join, next_ballot, turn_in}
+use Rattle.fx_machine.specs.Setup.{Setup}
+use Rattle.fx_machine.specs.Steps.{next, next_at, in_arrival, in_walk, inits, may_help_out}
+use Rattle.fx_machine.specs.Texts.{Text, Join, Jest}
+use Rattle.fx_node.specs.declared.stage.Stage.{Stage}
+use Rattle.fx_node.specs.declared.stage.Stage.TheVariants as stage
+use Rattle.fx_node.specs.Standing.{Standing, IsNodeOf, StandsAs}
+use Rattle.fx_inbox.specs.Turns.{phase_of}
+use Rattle.fx_script.specs.declared.job.Job.{Job}
+use Rattle.fx_store.proofs.Meanings.{from_sorted_again}
+use Rattle.fx_walk.specs.Lengths.{OnlyPrints}
+use Rattle.fx_walk.specs.Walk.{Walk, Ends, Passes, Prints, Asks, stamp_at}
+
+-- the text of the message of a text is this text
+abbrev pub Fits : ℕ × Text → Type 0
+Fits x = wire_text (message_of x.1) ≡ x.1
+
+abbrev pub AllFit : List (ℕ × Text) → Type 0
+AllFit [] = Unit {0}
+AllFit (x ∷ xs) = Fits x × AllFit xs
+
+abbrev pub ActFits : Option Act → Type 0
+ActFits None = Unit {0}
+ActFits (Some act) = AllFit act.sends
+
+-- one text to many
+to_all : (t : Text) → wire_text (message_of t) ≡ t → (qs : List ℕ) → AllFit (map (λ q. (q, t)) qs)
+to_all t fit [] = tt
+to_all t fit (q ∷ qs) = (fit, to_all t fit qs)
+
+others : (me : ℕ) (all : List ℕ) (t : Text) → wire_text (message_of t) ≡ t → AllFit (to_others me all t)
+others me all t fit = to_all t fit (filter (λ q. not (q == me)) all)
+
+joins_fit : (kind : Slot) (n : Node) → ActFits (joins kind n)
+joins_fit kind n = elim (may_join n) as (λ b. ActFits (if b then Some (joined kind n) else None)) [ true ↦ others n.me n.present (Join (suc n.epoch) kind) refl | false ↦ tt ]
+
+decision_fits : (s : Setup) (n : Node) (slots : List Slot) → ActFits (Some (decides_epoch s n slots))
+decision_fits s n slots = by (is_end n slots)
+  where
+    by : (b : Bool) → AllFit (if b then ends n else repairs s (arrived (voters (is_join (suc n.epoch)) n.present slots) n)).sends
+    by true = tt
+    by false = tt
+
+turn_fits : (s : Setup) (n : Node) (t : Turn) → ActFits (turned (next_ballot n) n node.Joining (λ slots. Some (decides_epoch s n slots)) t)
+turn_fits s n t = by t.poll
+  where
+    by : (p : Poll) → ActFits (turned (next_ballot n) n node.Joining (λ slots. Some (decides_epoch s n slots)) (record t { poll = p }))
+    by poll.NotYet = tt
+    by poll.Moved = tt
+    by (poll.SendEstimate slots) = others n.me n.present (Jest (suc n.epoch) (seat_of n.present n.me) slots) refl
+    by (poll.Decided slots) = decision_fits s n slots
+
+arrival_fits : (s : Setup) (n : Node) → ActFits (in_arrival s n)
+arrival_fits s n =
+    elim (has_place n.comm n.me) as (λ b. ActFits (if b then Some (inits s n) else (if may_help_out n then joins slot.Spare n else None)))
+    [ true ↦ tt | false ↦ helps (may_help_out n) ]
+  where
+    helps : (b : Bool) → ActFits (if b then joins slot.Spare n else None)
+    helps true = joins_fit slot.Spare n
+    helps false = tt
+
+walk_fits : (s : Setup) (n : Node) (walk : Walk) → OnlyPrints walk → ActFits (in_walk s n walk)
+walk_fits s n (Ends state) only = joins_fit slot.Final n
+walk_fits s n (Passes rest) only = tt
+walk_fits s n (Prints printed rest) only = tt
+walk_fits s n (Asks place wanted state rest) only = absurd only
+
+at : (s : Setup) (n : Node) {stage : node.Stage} → n.stage ≡ stage → ActFits (next_at s n stage) → ActFits (next s n)
+at s n e fits = subst (λ stage. ActFits (next_at s n stage)) (sym e) fits
+
+stage_fits : (s : Setup) (c : Standing) (n : Node) (at : Stage) → StandsAs at c n → ActFits (next s n)
+stage_fits s c n stage.Begins is = at s n is.0 (joins_fit slot.Start n)
+stage_fits s c n (stage.Joining phase) is = at s n is.0 (turn_fits s n (turn_in (next_ballot n) n (phase_of phase)))
+stage_fits s c n stage.Arrived is = at s n is.0 (arrival_fits s n)
+stage_fits s c n stage.Walking is = at s n is.0 (walk_fits s n n.walk is.1.prints)
+stage_fits s c n stage.Over is = at s n is tt
+
+-- what a node of a job sends
+pub sends_fit : (s : Setup) (job : Job) (c : Standing) (n : Node) → IsNodeOf job c n → ActFits (next s n)
+sends_fit s job c n is = stage_fits s c n c.stage is.stands
+
+-- ---- a message is that of its text
+
+same_entries : (es : List (Stamp × List ℕ)) → map (λ (e : ℤ × List ℕ). (stamp_at e.0, e.1)) (map (λ (e : Stamp × List ℕ). (e.0.0, e.1)) es) ≡ es
+same_entries [] = refl
+same_entries (e ∷ es) = ap (λ rest. e ∷ rest) (same_entries es)
+
+same_shares : (shares : StampShares) → shares_of (packed_of shares) ≡ shares
+same_shares shares = ap finite.from_sorted (same_entries (finite.entries shares)) ∙ from_sorted_again shares
+
+same_stamps : (ts : List Stamp) → map stamp_at (map (λ (t : Stamp). t.0) ts) ≡ ts
+same_stamps [] = refl
+same_stamps (t ∷ ts) = ap (λ rest. t ∷ rest) (same_stamps ts)
+
+same_known : (known : Option KnownMessage) → option_map known_message (option_map known_text known) ≡ known
+same_known None = refl
+same_known (Some k) = ap (λ ts. Some (record k { stamps = ts })) (same_stamps k.stamps)
+
+pub same_message : (m : Message) → message_of (wire_text m) ≡ m
+same_message (message.Join e kind) = refl
+same_message (message.Jest e r slots) = refl
+same_message (message.Part e k values) = refl
+same_message (message.Vote e k slot) = refl
+same_message (message.Est e k r slots) = refl
+same_message (message.Share e k shares) = ap (message.Share e k) (same_shares shares)
+same_message (message.Tell e k known) = ap (message.Tell e k) (same_known known)
+same_message (message.Help e k shares) = ap (message.Help e k) (same_shares shares)
+same_message (message.Give e k shares) = ap (message.Give e k) (same_shares shares)

@@ -1,0 +1,13 @@
+pub mod Lists
+pub mod Grows
+pub mod Fits
+pub mod Sendings
+pub mod Related
+pub mod Going
+pub mod Pieces
+pub mod Singles
+pub mod Ends
+pub mod First
+pub mod Stepping
+pub mod Loops
+pub mod Wholes
