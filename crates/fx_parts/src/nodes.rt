@@ -1,0 +1,114 @@
+ghost use Rattle.std.specs.Prelude.{◌≡◌, ◌≤◌};
+ghost use Rattle.fx_node.specs.Standing.{processes};
+
+use crate::jobs::{TWO_RANKS, job_of};
+use fx_base::{CallNo, Elems, Epoch, Ident, Proc, Seats, Seq, Stamp, StampShares, Stamps};
+use fx_item::{Item, Items};
+use fx_link::{Known, Message, Slot, Slots};
+use fx_node::{Moved, Node, Outbox};
+use std::alloc::Global;
+use std::test::Fail;
+
+const NUMBERS: [u32; 3] = [0, 1, u32::MAX];
+
+// Messages of every kind, of the first epochs and calls and the last, with as many slots as there are members, too few and
+// too many.
+fn messages(alloc: Global) -> Result<Seq<Message>, Fail> {
+    let mut all = Seq::new(alloc);
+    for number in NUMBERS {
+        let e = Epoch(number);
+        for kind in [Slot::Start, Slot::Final, Slot::Yes, Slot::NoLost(Proc(9))] {
+            all.push(Message::Join { e, kind })?;
+        }
+        for count in 0..4 {
+            let slots = slots_of(alloc, count)?;
+            all.push(Message::Jest { e, r: count, slots })?;
+        }
+        for call in NUMBERS {
+            add_of_call(alloc, &mut all, e, CallNo(call))?;
+        }
+    }
+    Ok(all)
+}
+
+fn add_of_call(alloc: Global, all: &mut Seq<Message>, e: Epoch, k: CallNo) -> Result<(), Fail> {
+    let elems = Elems::new(alloc);
+    all.push(Message::Part { e, k, elems })?;
+    all.push(Message::Vote {
+        e,
+        k,
+        slot: Slot::Flag(-1),
+    })?;
+    let slots = slots_of(alloc, 2)?;
+    all.push(Message::Est { e, k, r: 0, slots })?;
+    let shares = StampShares::new(alloc);
+    all.push(Message::Share { e, k, shares })?;
+    for known in [None, Some(known_of(alloc)?)] {
+        all.push(Message::Tell { e, k, known })?;
+    }
+    let shares = StampShares::new(alloc);
+    all.push(Message::Help { e, k, shares })?;
+    let shares = StampShares::new(alloc);
+    all.push(Message::Give { e, k, shares })?;
+    Ok(())
+}
+
+fn slots_of(alloc: Global, count: u8) -> Result<Slots, Fail> {
+    let mut slots = Slots::new(alloc);
+    for _ in 0..count {
+        slots.push(Slot::Lost)?;
+    }
+    Ok(slots)
+}
+
+fn known_of(alloc: Global) -> Result<Known, Fail> {
+    let mut comm = Seats::new(alloc);
+    comm.push((Ident(7), Proc(200)))?;
+    Ok(Known {
+        created: Epoch(u32::MAX),
+        next: Stamp(i64::MIN),
+        comm,
+        stamps: Stamps::new(alloc),
+    })
+}
+
+// Every one of them comes from every process, the node's own among them.
+fn hear_all(alloc: Global, node: &mut Node, procs: u8) -> Result<(), Fail>
+    requires { procs ≤ processes node.old }
+    ensures { processes node.new ≡ processes node.old }
+{
+    for from in 0..procs {
+        for message in messages(alloc)?.into_items() {
+            node.receive(Proc(from), message)?;
+        }
+    }
+    Ok(())
+}
+
+#[test]
+fn a_node_hears_whatever_comes_between_its_steps(rt: HostRuntime) -> Result<(), Fail> {
+    let alloc = rt.alloc();
+    let job = job_of(&rt, alloc, TWO_RANKS)?;
+    assert!(rt; job.procs() > 1);
+    let mut node = Node::new(alloc, &job, Proc(1))?;
+    let mut sends = Outbox::new(alloc);
+    let mut items = Items::new(alloc);
+    let mut moved = Moved::Acted;
+    for _ in 0..4 {
+        hear_all(alloc, &mut node, job.procs())?;
+        node.notice(Proc(0));
+        moved = node.step(&mut sends, &mut items)?;
+    }
+    assert!(rt; moved != Moved::Ended && !node.has_ended());
+    assert!(rt;
+        matches!(
+            items.nth(0),
+            Some(Item::Join {
+                p: Proc(1),
+                e: Epoch(1),
+                kind: Slot::Start
+            })
+        )
+    );
+    Ok(())
+}
