@@ -1,13 +1,16 @@
 -- The numbers of the events of an accepted job.
-use Rattle.std.proofs.Common.{◌≡◌, ◌≤◌, ◌<◌, ℕ, zero, suc, ◌+◌, Bool, true, ◌&&◌, List, [], ◌∷◌, length, get_or, refl, arith}
-use Rattle.std.specs.Prelude.{ℤ, pos, negsuc}
+use Rattle.std.proofs.Common.{◌≡◌, ◌≤◌, ◌<◌, ℕ, zero, suc, ◌+◌, Bool, true, ◌&&◌, List, [], ◌∷◌, map, length, get_or, refl, sym, subst, arith}
+use Rattle.std.specs.Prelude.{ℤ, pos, negsuc, All}
 use Rattle.std.proofs.lemmas.Bool.{and_parts}
+use Rattle.std.proofs.lemmas.List.Elements.{All-nil, All-cons}
 use Rattle.fx_script.specs.declared.job.Event.{Event}
 use Rattle.fx_script.specs.declared.job.EventKind.{EventKind}
 use Rattle.fx_script.specs.declared.job.EventKind.TheVariants as event
 use Rattle.fx_check.specs.Acceptance.{event_lines}
 use Rattle.fx_check.specs.Parts.{KeepRules}
 use Rattle.fx_check.specs.Rules.{is_process, is_event_in_range}
+use Rattle.fx_sched.specs.declared.moment.Moment.{Moment}
+use Rattle.fx_sched.specs.Moments.{event_of, kind_of}
 
 wider : (procs : ℕ) (n : ℤ) → procs ≤ 16 → is_process procs n ≡ true → is_process 16 n ≡ true
 wider procs (pos n) few is = grind (arith, few, is)
@@ -30,3 +33,19 @@ pub in_range : (procs before : ℕ) (events : List Event) (k : ℕ) (d : Event) 
 in_range procs before [] k d few keep below = absurd (omega (arith, below))
 in_range procs before (first ∷ events) zero d few keep below = event_wider procs first.kind few keep.0.in_range
 in_range procs before (first ∷ events) (suc k) d few keep below = in_range procs (before + 1) events k d few keep.1 (omega (arith, below))
+
+same_first : {X : Type 0} (x y : X) (xs ys : List X) → (x ∷ xs) ≡ (y ∷ ys) → x ≡ y
+same_first x y xs ys e = cc
+
+same_rest : {X : Type 0} (x y : X) (xs ys : List X) → (x ∷ xs) ≡ (y ∷ ys) → xs ≡ ys
+same_rest x y xs ys e = cc
+
+-- the processes of moments that stand for such events are among so many
+pub all_among : (procs before : ℕ) (moments : List Moment) (events : List Event) → map event_of moments ≡ map kind_of events → KeepRules (event_lines procs before events)
+    → All (λ m. is_event_in_range procs (event_of m) ≡ true) moments
+all_among procs before [] events same keep = All-nil (λ m. is_event_in_range procs (event_of m) ≡ true)
+all_among procs before (m ∷ ms) [] same keep = absurd cc
+all_among procs before (m ∷ ms) (e ∷ es) same keep =
+    All-cons (λ m. is_event_in_range procs (event_of m) ≡ true) m ms
+    (subst (λ (k : EventKind). is_event_in_range procs k ≡ true) (sym (same_first (event_of m) e.kind (map event_of ms) (map kind_of es) same)) keep.0.in_range)
+    (all_among procs (before + 1) ms es (same_rest (event_of m) e.kind (map event_of ms) (map kind_of es) same) keep.1)
