@@ -14,6 +14,26 @@ def job(ranks, length, body):
     return HEAD.format(ranks, length) + body + TAIL
 
 
+def of_ranks(ranks, prints, events):
+    """A job of so many ranks that each print so often, with these events."""
+    body = "let a + a rank\n" + "print a\n" * prints
+    return HEAD.format(ranks, 16) + body + "end\nschedule\n" + "".join(event + "\n" for event in events) + "stop\n"
+
+
+def drawn(ranks, count):
+    """So many steps, rests and deliveries, by a sequence of numbers that is always the same."""
+    x = 5
+
+    def below(m):
+        nonlocal x
+        x = (x * 6364136223846793005 + 1442695040888963407) % 2**64
+        return (x >> 33) % m
+
+    for _ in range(count):
+        kind = ("step", "rest", "deliver")[below(3)]
+        yield f"{kind} {below(ranks)}" + (f" {below(ranks)}" if kind == "deliver" else "")
+
+
 def looped(turns, declared, body, behind):
     """A job of one rank with a loop of so many turns, whose counter is c."""
     head = "fenix 1\nranks 1\nspares 0\nseparation 1\n" + declared + "begin\n"
@@ -55,6 +75,12 @@ def jobs():
     for turns in (300, 3_000):
         counted = looped(turns, "array a 1\ncounter c\ncounter d\n", branch, "print d\nprint a\n")
         yield f"branches_{turns}", counted, DONE
+
+    # Many ranks: what they print by themselves, and a schedule of many events.
+    for ranks, prints in ((4, 1_000), (16, 1_000), (16, 4_000)):
+        yield f"plain_{ranks}_{prints}", of_ranks(ranks, prints, []), DONE
+    for count in (10_000, 100_000):
+        yield f"events_16_{count}", of_ranks(16, 200, drawn(16, count)), DONE
 
     # What is read alone: 17 ranks are refused at the second line.
     opened, closed = "when initial\n" * 64, "endwhen\n" * 64

@@ -41,12 +41,17 @@ printf '%-38s %9s %10s %13s %8s\n' job read written instructions 'per byte'
 for file in "$jobs"/*.job; do
     name=$(basename "$file" .job)
     case $name in
-    check_*) mode=check ;;
-    *) mode=run ;;
+    check_*) modes=check ;;
+    plain_* | events_*) modes='run wire' ;;
+    *) modes=run ;;
     esac
-    measure "$(cat "$jobs/$name.status")" "$mode" < "$file"
-    read=$(stat -c %s "$file")
-    written=$(stat -c %s "$jobs/out")
-    awk -v name="$name" -v read="$read" -v written="$written" -v count="$count" \
-        'BEGIN { printf "%-38s %9d %10d %13d %8.1f\n", name, read, written, count, count / (read + written) }'
+    for mode in $modes; do
+        measure "$(cat "$jobs/$name.status")" "$mode" < "$file"
+        read=$(stat -c %s "$file")
+        written=$(stat -c %s "$jobs/out")
+        label=$name
+        [ "$mode" = wire ] && label="$name, wire"
+        awk -v name="$label" -v read="$read" -v written="$written" -v count="$count" \
+            'BEGIN { printf "%-38s %9d %10d %13d %8.1f\n", name, read, written, count, count / (read + written) }'
+    done
 done

@@ -1,25 +1,33 @@
 -- What the end of a call says of it.
-use Rattle.std.proofs.Common.{◌≡◌, ℕ, ◌<◌, ◌≤◌, inl, Bool, true, false, nat_lt, if◌then◌else◌, List, ◌++◌, length, Option, Some, None, is_some, Result, Ok, Err, refl, sym, ap, subst, ◌∙◌, arith, length-append}
+use Rattle.std.proofs.Common.{◌≡◌, ℕ, ◌<◌, ◌≤◌, inl, inr, Bool, true, false, nat_lt, if◌then◌else◌, List, ◌++◌, length, Option, Some, None, is_some, Result, Ok, Err, refl, sym, ap, subst, ◌∙◌, arith, length-append}
 use Rattle.std.proofs.lemmas.List.{append-nil}
 use Rattle.fx_base.specs.declared.spot.Spot.{Spot}
 use Rattle.fx_io.specs.States.{SourceState, SinkState}
 use Rattle.fx_io.specs.Told.{Loses, IsAtEnd, Gains}
 use Rattle.fx_script.specs.declared.job.Job.{Job}
+use Rattle.fx_script.specs.Canonical.{canonical}
 use Rattle.fx_script.specs.Reading.{Refusal, reading, job_in}
 use Rattle.fx_script.specs.Spelling.{IsWritable}
 use Rattle.fx_script.proofs.CanonAlone.{canonical_alone}
 use Rattle.fx_script.proofs.Spelled.{is_read, job_found}
+use Rattle.fx_item.specs.declared.item.Item.{Item}
 use Rattle.fx_check.specs.Acceptance.{Refused, refusal_of}
 use Rattle.fx_check.proofs.Accepting.{accepted_if_none, none_if_accepted}
 use Rattle.fx_cli.specs.declared.mode.Mode.{Mode}
 use Rattle.fx_cli.specs.declared.mode.Mode.TheVariants as mode
-use Rattle.fx_cli.specs.declared.status.Refusal.TheVariants.{NotBuilt}
+use Rattle.fx_cli.specs.declared.status.Refusal.{Refusal as Reason}
+use Rattle.fx_cli.specs.declared.status.Refusal.TheVariants.{NotBuilt, Text, Static, TooBig}
 use Rattle.fx_cli.specs.declared.status.Status.{Status}
-use Rattle.fx_cli.specs.declared.status.Status.TheVariants.{Done, BadWords, BadJob, ReadFault, WriteFault, NoMemory}
+use Rattle.fx_cli.specs.declared.status.Status.TheVariants.{Done, BadWords, BadJob, ReadFault, WriteFault, NoMemory, Unfinished}
 use Rattle.fx_cli.specs.Built.{first_unbuilt}
-use Rattle.fx_cli.specs.Dues.{longest_job, mode_of, Input, WrongWords, TooLong, Whole, IsInput, Due, input_in, input_of, due_to, due_to_reading, due_to_job, due_to_accepted, due_to_run}
-use Rattle.fx_cli.specs.Ends.{Settles, Ends, Takes, IsRun, IsCheck, DoesWhatIsAsked, IsUnbuilt, IsGiven, IsUnlessCut, IsDoneUnlessCut}
+use Rattle.fx_cli.specs.Dues.{longest_job, mode_of, Input, WrongWords, TooLong, Whole, IsInput, Due, input_in, input_of, due_to, due_to_reading, due_to_job, due_to_accepted, due_to_world, end_of, is_left_unfinished}
+use Rattle.fx_cli.specs.Ends.{Answered, Settles, Ends, Takes, IsWholeRun, IsUnfinishedRun, IsCheck, DoesWhatIsAsked, LeavesUnfinished, AsksRun, IsUnbuilt, IsGiven, IsUnlessCut, IsDoneUnlessCut, IsDoneOrUnfinished}
+use Rattle.fx_fleet.specs.Runs.{wire_of, journal_of}
+use Rattle.fx_world.specs.declared.shown.Shown.{Shown}
+use Rattle.fx_world.specs.declared.shown.Shown.TheVariants as shown
+use Rattle.fx_world.specs.Texts.{shown_text, text_of}
 use Rattle.fx_cli.proofs.Legality.{is_legal, all_ended}
+use Rattle.fx_cli.proofs.Texts.{journal_text, wire_text}
 
 -- what came in, and what is due to it, written whole or in part
 pub ends_of : (words : List (List ℕ)) (source source' : SourceState) (sink sink' : SinkState) (input : Input) (s : Status) →
@@ -30,6 +38,7 @@ ends_of words source source' sink sink' input (BadJob refusal spot) is p = (inpu
 ends_of words source source' sink sink' input ReadFault is p = absurd p
 ends_of words source source' sink sink' input WriteFault is p = (input, is, p.content)
 ends_of words source source' sink sink' input NoMemory is p = inl (input, is, p.content)
+ends_of words source source' sink sink' input Unfinished is p = (input, is, p.0, p.1.content)
 
 -- a job that is read and refused for nothing is taken
 takes : (source source' : SourceState) (text : List ℕ) (job : Job) → job_in text ≡ Ok job → refusal_of job ≡ None →
@@ -43,66 +52,151 @@ takes source source' text job is fine short read end = record {
   accepted = accepted_if_none job fine;
 }
 
--- a job that was done
-run_done : (sink sink' : SinkState) (job : Job) (o : Option Spot) → IsWritable job → first_unbuilt job ≡ o →
-    Done ≡ (due_to_run job o).status → Gains sink.written sink'.written (due_to_run job o).output → IsRun job sink sink'
-run_done sink sink' job None writable built done gained =
-    record { built = built; legal = is_legal job writable built; ended = all_ended job writable built; gained = gained }
-run_done sink sink' job (Some spot) writable built done gained = absurd cc
+-- ---- runs
 
-accepted_done : (source source' : SourceState) (sink sink' : SinkState) (asked : Mode) (job : Job) → Takes source source' job →
-    Done ≡ (due_to_accepted asked job).status → Gains sink.written sink'.written (due_to_accepted asked job).output →
-    DoesWhatIsAsked (Some asked) source source' sink sink'
-accepted_done source source' sink sink' mode.Run job taken done gained =
-    (job, taken, run_done sink sink' job (first_unbuilt job) taken.spelled.writable refl done gained)
-accepted_done source source' sink sink' mode.Check job taken done gained =
+-- how a run ends, by whether it is left unfinished
+abbrev end_by : Bool → Status
+end_by b = if b then Unfinished else Done
+
+abbrev RunEnds : Job → List Item → SinkState → SinkState → Status → Type 0
+RunEnds job items sink sink' s = IsDoneOrUnfinished (IsWholeRun job items sink sink') (IsUnfinishedRun job items sink sink') s
+
+-- a run whose text was written ends so
+run_ends : (job : Job) (items : List Item) (sink sink' : SinkState) (b : Bool) → IsWritable job → first_unbuilt job ≡ None → is_left_unfinished job ≡ b →
+    Gains sink.written sink'.written (text_of items) → RunEnds job items sink sink' (end_by b)
+run_ends job items sink sink' true writable built over gained =
+    record { built = built; legal = is_legal job writable built; unfinished = over; gained = gained }
+run_ends job items sink sink' false writable built over gained =
+    record { built = built; legal = is_legal job writable built; over = over; ended = all_ended job writable built over; gained = gained }
+
+gains_same : (a b : Option (List ℕ)) (text other : List ℕ) → text ≡ other → Gains a b text → Gains a b other
+gains_same a b text other same gains = subst (λ (t : List ℕ). Gains a b t) same gains
+
+-- ---- what is done, and what is left unfinished
+
+-- what the words asked for, by the status
+abbrev EndsAs : Option Mode → SourceState → SourceState → SinkState → SinkState → Status → Type 0
+EndsAs asked source source' sink sink' Done = DoesWhatIsAsked asked source source' sink sink'
+EndsAs asked source source' sink sink' BadWords = Unit {0}
+EndsAs asked source source' sink sink' (BadJob refusal spot) = Unit {0}
+EndsAs asked source source' sink sink' ReadFault = Unit {0}
+EndsAs asked source source' sink sink' WriteFault = Unit {0}
+EndsAs asked source source' sink sink' NoMemory = Unit {0}
+EndsAs asked source source' sink sink' Unfinished = LeavesUnfinished asked source source' sink sink'
+
+-- a refusal says nothing of it
+ends_refused : (asked : Option Mode) (source source' : SourceState) (sink sink' : SinkState) (s : Status) (refusal : Reason) (spot : Spot) →
+    s ≡ BadJob refusal spot → EndsAs asked source source' sink sink' s
+ends_refused asked source source' sink sink' s refusal spot e = subst (EndsAs asked source source' sink sink') (sym e) tt
+
+run_taken : (source source' : SourceState) (sink sink' : SinkState) (job : Job) (b : Bool) → Takes source source' job → RunEnds job (journal_of job) sink sink' (end_by b) →
+    EndsAs (Some mode.Run) source source' sink sink' (end_by b)
+run_taken source source' sink sink' job true taken run = (job, taken, run)
+run_taken source source' sink sink' job false taken run = (job, taken, run)
+
+wire_taken : (source source' : SourceState) (sink sink' : SinkState) (job : Job) (b : Bool) → Takes source source' job → RunEnds job (wire_of job) sink sink' (end_by b) →
+    EndsAs (Some mode.Wire) source source' sink sink' (end_by b)
+wire_taken source source' sink sink' job true taken run = (job, taken, run)
+wire_taken source source' sink sink' job false taken run = (job, taken, run)
+
+run_done : (source source' : SourceState) (sink sink' : SinkState) (s : Status) (job : Job) (o : Option Spot) → Takes source source' job → first_unbuilt job ≡ o →
+    s ≡ (due_to_world shown.Journal job o).status → Gains sink.written sink'.written (due_to_world shown.Journal job o).output →
+    EndsAs (Some mode.Run) source source' sink sink' s
+run_done source source' sink sink' s job None taken built ends gained =
+    subst (EndsAs (Some mode.Run) source source' sink sink') (sym ends)
+    (run_taken source source' sink sink' job (is_left_unfinished job) taken
+    (run_ends job (journal_of job) sink sink' (is_left_unfinished job) taken.spelled.writable built refl (gains_same _ _ _ _ (journal_text job) gained)))
+run_done source source' sink sink' s job (Some spot) taken built ends gained = ends_refused (Some mode.Run) source source' sink sink' s NotBuilt spot ends
+
+wire_done : (source source' : SourceState) (sink sink' : SinkState) (s : Status) (job : Job) (o : Option Spot) → Takes source source' job → first_unbuilt job ≡ o →
+    s ≡ (due_to_world shown.Wire job o).status → Gains sink.written sink'.written (due_to_world shown.Wire job o).output →
+    EndsAs (Some mode.Wire) source source' sink sink' s
+wire_done source source' sink sink' s job None taken built ends gained =
+    subst (EndsAs (Some mode.Wire) source source' sink sink') (sym ends)
+    (wire_taken source source' sink sink' job (is_left_unfinished job) taken
+    (run_ends job (wire_of job) sink sink' (is_left_unfinished job) taken.spelled.writable built refl (gains_same _ _ _ _ (wire_text job) gained)))
+wire_done source source' sink sink' s job (Some spot) taken built ends gained = ends_refused (Some mode.Wire) source source' sink sink' s NotBuilt spot ends
+
+check_done : (source source' : SourceState) (sink sink' : SinkState) (s : Status) (job : Job) → Takes source source' job → s ≡ Done →
+    Gains sink.written sink'.written (canonical job) → EndsAs (Some mode.Check) source source' sink sink' s
+check_done source source' sink sink' s job taken ends gained =
+    subst (EndsAs (Some mode.Check) source source' sink sink') (sym ends)
     (job, taken, record { alone = canonical_alone job record { text = taken.text; told = job; spelled = taken.spelled; same = refl }; gained = gained })
 
-job_done : (source source' : SourceState) (sink sink' : SinkState) (asked : Mode) (text : List ℕ) (job : Job) (o : Option Refused) →
+accepted_done : (source source' : SourceState) (sink sink' : SinkState) (s : Status) (asked : Mode) (job : Job) → Takes source source' job →
+    s ≡ (due_to_accepted asked job).status → Gains sink.written sink'.written (due_to_accepted asked job).output →
+    EndsAs (Some asked) source source' sink sink' s
+accepted_done source source' sink sink' s mode.Run job taken ends gained = run_done source source' sink sink' s job (first_unbuilt job) taken refl ends gained
+accepted_done source source' sink sink' s mode.Wire job taken ends gained = wire_done source source' sink sink' s job (first_unbuilt job) taken refl ends gained
+accepted_done source source' sink sink' s mode.Check job taken ends gained = check_done source source' sink sink' s job taken ends gained
+
+job_done : (source source' : SourceState) (sink sink' : SinkState) (s : Status) (asked : Mode) (text : List ℕ) (job : Job) (o : Option Refused) →
     job_in text ≡ Ok job → refusal_of job ≡ o → length text ≤ longest_job → Loses source.left source'.left text → IsAtEnd source'.left →
-    Done ≡ (due_to_job asked job o).status → Gains sink.written sink'.written (due_to_job asked job o).output →
-    DoesWhatIsAsked (Some asked) source source' sink sink'
-job_done source source' sink sink' asked text job None is fine short read end done gained =
-    accepted_done source source' sink sink' asked job (takes source source' text job is fine short read end) done gained
-job_done source source' sink sink' asked text job (Some refused) is fine short read end done gained = absurd cc
+    s ≡ (due_to_job asked job o).status → Gains sink.written sink'.written (due_to_job asked job o).output →
+    EndsAs (Some asked) source source' sink sink' s
+job_done source source' sink sink' s asked text job None is fine short read end ends gained =
+    accepted_done source source' sink sink' s asked job (takes source source' text job is fine short read end) ends gained
+job_done source source' sink sink' s asked text job (Some refused) is fine short read end ends gained =
+    ends_refused (Some asked) source source' sink sink' s (Static refused.fault) refused.spot ends
 
-text_done : (source source' : SourceState) (sink sink' : SinkState) (asked : Mode) (text : List ℕ) (r : Result Job Refusal) →
+text_done : (source source' : SourceState) (sink sink' : SinkState) (s : Status) (asked : Mode) (text : List ℕ) (r : Result Job Refusal) →
     job_in text ≡ r → length text ≤ longest_job → Loses source.left source'.left text → IsAtEnd source'.left →
-    Done ≡ (due_to_reading asked r).status → Gains sink.written sink'.written (due_to_reading asked r).output →
-    DoesWhatIsAsked (Some asked) source source' sink sink'
-text_done source source' sink sink' asked text (Ok job) is short read end done gained =
-    job_done source source' sink sink' asked text job (refusal_of job) is refl short read end done gained
-text_done source source' sink sink' asked text (Err r) is short read end done gained = absurd cc
+    s ≡ (due_to_reading asked r).status → Gains sink.written sink'.written (due_to_reading asked r).output →
+    EndsAs (Some asked) source source' sink sink' s
+text_done source source' sink sink' s asked text (Ok job) is short read end ends gained =
+    job_done source source' sink sink' s asked text job (refusal_of job) is refl short read end ends gained
+text_done source source' sink sink' s asked text (Err r) is short read end ends gained = ends_refused (Some asked) source source' sink sink' s (Text r.fault) r.spot ends
 
-input_done : (words : List (List ℕ)) (source source' : SourceState) (sink sink' : SinkState) (input : Input) →
-    IsInput words source.left source'.left input → Done ≡ (due_to input).status → Gains sink.written sink'.written (due_to input).output →
-    DoesWhatIsAsked (mode_of words) source source' sink sink'
-input_done words source source' sink sink' WrongWords is done gained = absurd cc
-input_done words source source' sink sink' TooLong is done gained = absurd cc
-input_done words source source' sink sink' (Whole asked text) is done gained =
-    subst (λ (o : Option Mode). DoesWhatIsAsked o source source' sink sink') (sym is.0)
-    (text_done source source' sink sink' asked text (job_in text) refl is.1 is.2 is.3 done gained)
+input_done : (words : List (List ℕ)) (source source' : SourceState) (sink sink' : SinkState) (s : Status) (input : Input) →
+    IsInput words source.left source'.left input → s ≡ (due_to input).status → Gains sink.written sink'.written (due_to input).output →
+    EndsAs (mode_of words) source source' sink sink' s
+input_done words source source' sink sink' s WrongWords is ends gained = subst (EndsAs (mode_of words) source source' sink sink') (sym ends) tt
+input_done words source source' sink sink' s TooLong is ends gained = ends_refused (mode_of words) source source' sink sink' s TooBig (record { line = 1; column = 1 }) ends
+input_done words source source' sink sink' s (Whole asked text) is ends gained =
+    subst (λ (o : Option Mode). EndsAs o source source' sink sink' s) (sym is.0)
+    (text_done source source' sink sink' s asked text (job_in text) refl is.1 is.2 is.3 ends gained)
 
 -- a call that is done has done what its words ask for
 pub is_done : (words : List (List ℕ)) (source source' : SourceState) (sink sink' : SinkState) (s : Status) →
     Ends words source source' sink sink' s → s ≡ Done → DoesWhatIsAsked (mode_of words) source source' sink sink'
-is_done words source source' sink sink' Done e is = input_done words source source' sink sink' e.0 e.1 e.2 e.3
+is_done words source source' sink sink' Done e is = input_done words source source' sink sink' Done e.0 e.1 e.2 e.3
 is_done words source source' sink sink' BadWords e is = absurd cc
 is_done words source source' sink sink' (BadJob refusal spot) e is = absurd cc
 is_done words source source' sink sink' ReadFault e is = absurd cc
 is_done words source source' sink sink' WriteFault e is = absurd cc
 is_done words source source' sink sink' NoMemory e is = absurd cc
+is_done words source source' sink sink' Unfinished e is = absurd cc
+
+-- a call that ends unfinished was asked for a run, whose tail wasn't enough
+pub is_unfinished : (words : List (List ℕ)) (source source' : SourceState) (sink sink' : SinkState) (s : Status) →
+    Ends words source source' sink sink' s → s ≡ Unfinished → LeavesUnfinished (mode_of words) source source' sink sink'
+is_unfinished words source source' sink sink' Done e is = absurd cc
+is_unfinished words source source' sink sink' BadWords e is = absurd cc
+is_unfinished words source source' sink sink' (BadJob refusal spot) e is = absurd cc
+is_unfinished words source source' sink sink' ReadFault e is = absurd cc
+is_unfinished words source source' sink sink' WriteFault e is = absurd cc
+is_unfinished words source source' sink sink' NoMemory e is = absurd cc
+is_unfinished words source source' sink sink' Unfinished e is = input_done words source source' sink sink' Unfinished e.0 e.1 e.2 e.3
 
 -- a job that is refused since a line of it isn't built yet
-run_unbuilt : (job : Job) (o : Option Spot) (spot : Spot) → first_unbuilt job ≡ o → BadJob NotBuilt spot ≡ (due_to_run job o).status →
+never_refused : (b : Bool) (refusal : Reason) (spot : Spot) → BadJob refusal spot ≡ end_by b → ⊥
+never_refused true refusal spot e = cc
+never_refused false refusal spot e = cc
+
+same_spot : (spot first : Spot) → BadJob NotBuilt spot ≡ BadJob NotBuilt first → first ≡ spot
+same_spot spot first e = cc
+
+world_unbuilt : (shown : Shown) (job : Job) (o : Option Spot) (spot : Spot) → first_unbuilt job ≡ o → BadJob NotBuilt spot ≡ (due_to_world shown job o).status →
     first_unbuilt job ≡ Some spot
-run_unbuilt job None spot is e = absurd cc
-run_unbuilt job (Some first) spot is e = cc
+world_unbuilt shown job None spot is e = absurd (never_refused (is_left_unfinished job) NotBuilt spot e)
+world_unbuilt shown job (Some first) spot is e = is ∙ ap (λ (s : Spot). Some s) (same_spot spot first e)
 
 accepted_unbuilt : (words : List (List ℕ)) (source source' : SourceState) (asked : Mode) (job : Job) (spot : Spot) → mode_of words ≡ Some asked →
     Takes source source' job → BadJob NotBuilt spot ≡ (due_to_accepted asked job).status → IsUnbuilt words source source' spot
 accepted_unbuilt words source source' mode.Run job spot named taken e =
-    record { job = job; asked = named; taken = taken; first = run_unbuilt job (first_unbuilt job) spot refl e }
+    record { job = job; asked = inl named; taken = taken; first = world_unbuilt shown.Journal job (first_unbuilt job) spot refl e }
+accepted_unbuilt words source source' mode.Wire job spot named taken e =
+    record { job = job; asked = inr named; taken = taken; first = world_unbuilt shown.Wire job (first_unbuilt job) spot refl e }
 accepted_unbuilt words source source' mode.Check job spot named taken e = absurd cc
 
 job_unbuilt : (words : List (List ℕ)) (source source' : SourceState) (asked : Mode) (text : List ℕ) (job : Job) (o : Option Refused) (spot : Spot) →
@@ -134,6 +228,7 @@ is_unbuilt words source source' sink sink' (BadJob refusal at) e spot is = input
 is_unbuilt words source source' sink sink' ReadFault e spot is = absurd cc
 is_unbuilt words source source' sink sink' WriteFault e spot is = absurd cc
 is_unbuilt words source source' sink sink' NoMemory e spot is = absurd cc
+is_unbuilt words source source' sink sink' Unfinished e spot is = absurd cc
 
 -- no more than the limit, and more
 not_more : (n : ℕ) → n ≤ longest_job → nat_lt longest_job n ≡ false
@@ -192,6 +287,7 @@ is_due words source source' sink sink' (BadJob refusal spot) e held told = statu
 is_due words source source' sink sink' ReadFault e held told = tt
 is_due words source source' sink sink' WriteFault e held told = tt
 is_due words source source' sink sink' NoMemory e held told = tt
+is_due words source source' sink sink' Unfinished e held told = status_is words source.left source'.left held e.0 Unfinished told e.1 e.2
 
 -- what is due to an accepted job is due where it is given
 given_due : (asked : Mode) (words : List (List ℕ)) (source : SourceState) (job : Job) (given : IsGiven asked words source job) →
@@ -213,27 +309,58 @@ other_status d d' s s' same e is = e ∙ ap (λ (x : Due). x.status) same ∙ is
 not_bad_words : BadWords ≡ Done → ⊥
 not_bad_words e = cc
 
-not_bad_job : (refusal : Rattle.fx_cli.specs.declared.status.Refusal.Refusal) (spot : Spot) → BadJob refusal spot ≡ Done → ⊥
+not_bad_job : (refusal : Reason) (spot : Spot) → BadJob refusal spot ≡ Done → ⊥
 not_bad_job refusal spot e = cc
 
--- a job that is given and can be run is run
+not_unfinished : Unfinished ≡ Done → ⊥
+not_unfinished e = cc
+
+-- a job that is given and can be run is run, where what is due is these items of it
+answered_ran : (asked : Mode) (shown : Shown) (items : List Item) (words : List (List ℕ)) (source source' : SourceState) (sink sink' : SinkState) (s : Status) (job : Job) →
+    shown_text shown (wire_of job) ≡ text_of items → due_to_accepted asked job ≡ due_to_world shown job (first_unbuilt job) →
+    Answered words source source' sink sink' s → IsGiven asked words source job → first_unbuilt job ≡ None → RunEnds job items sink sink' s
+answered_ran asked shown items words source source' sink sink' s job text accepted e given built =
+    let due = given_is asked words source source' job given e.0 e.1 ∙ accepted ∙ ap (due_to_world shown job) built in
+    subst (RunEnds job items sink sink') (sym (other_status _ _ _ _ due e.2 refl))
+    (run_ends job items sink sink' (is_left_unfinished job) given.spelled.writable built refl
+    (gains_same _ _ _ _ text (subst (λ (d : Due). Gains sink.written sink'.written d.output) due e.3)))
+
+ran : (asked : Mode) (shown : Shown) (items : List Item) (words : List (List ℕ)) (source source' : SourceState) (sink sink' : SinkState) (s : Status) (job : Job) →
+    shown_text shown (wire_of job) ≡ text_of items → due_to_accepted asked job ≡ due_to_world shown job (first_unbuilt job) →
+    Ends words source source' sink sink' s → IsGiven asked words source job → first_unbuilt job ≡ None → RunEnds job items sink sink' s
+ran asked shown items words source source' sink sink' Done job text accepted e given built = answered_ran asked shown items words source source' sink sink' Done job text accepted e given built
+ran asked shown items words source source' sink sink' BadWords job text accepted e given built = answered_ran asked shown items words source source' sink sink' BadWords job text accepted e given built
+ran asked shown items words source source' sink sink' (BadJob refusal spot) job text accepted e given built =
+    answered_ran asked shown items words source source' sink sink' (BadJob refusal spot) job text accepted e given built
+ran asked shown items words source source' sink sink' ReadFault job text accepted e given built = tt
+ran asked shown items words source source' sink sink' WriteFault job text accepted e given built = tt
+ran asked shown items words source source' sink sink' NoMemory job text accepted e given built = tt
+ran asked shown items words source source' sink sink' Unfinished job text accepted e given built = answered_ran asked shown items words source source' sink sink' Unfinished job text accepted e given built
+
 pub is_ran : (words : List (List ℕ)) (source source' : SourceState) (sink sink' : SinkState) (s : Status) → Ends words source source' sink sink' s →
-    (job : Job) → IsGiven mode.Run words source job → first_unbuilt job ≡ None → IsDoneUnlessCut (IsRun job sink sink') s
-is_ran words source source' sink sink' Done e job given built =
-    let due = given_is mode.Run words source source' job given e.0 e.1 ∙ ap (due_to_run job) built in
-    record {
-      built = built;
-      legal = is_legal job given.spelled.writable built;
-      ended = all_ended job given.spelled.writable built;
-      gained = subst (λ (d : Due). Gains sink.written sink'.written d.output) due e.3;
-    }
-is_ran words source source' sink sink' BadWords e job given built =
-    not_bad_words (other_status _ _ _ _ (given_is mode.Run words source source' job given e.0 e.1 ∙ ap (due_to_run job) built) e.2 refl)
-is_ran words source source' sink sink' (BadJob refusal spot) e job given built =
-    not_bad_job refusal spot (other_status _ _ _ _ (given_is mode.Run words source source' job given e.0 e.1 ∙ ap (due_to_run job) built) e.2 refl)
-is_ran words source source' sink sink' ReadFault e job given built = tt
-is_ran words source source' sink sink' WriteFault e job given built = tt
-is_ran words source source' sink sink' NoMemory e job given built = tt
+    (job : Job) → IsGiven mode.Run words source job → first_unbuilt job ≡ None → RunEnds job (journal_of job) sink sink' s
+is_ran words source source' sink sink' s e job given built =
+    ran mode.Run shown.Journal (journal_of job) words source source' sink sink' s job (journal_text job) refl e given built
+
+pub is_wired : (words : List (List ℕ)) (source source' : SourceState) (sink sink' : SinkState) (s : Status) → Ends words source source' sink sink' s →
+    (job : Job) → IsGiven mode.Wire words source job → first_unbuilt job ≡ None → RunEnds job (wire_of job) sink sink' s
+is_wired words source source' sink sink' s e job given built =
+    ran mode.Wire shown.Wire (wire_of job) words source source' sink sink' s job (wire_text job) refl e given built
+
+-- a run ends unfinished where that is due
+run_due : (asked : Mode) (job : Job) → AsksRun (Some asked) → first_unbuilt job ≡ None → (due_to_accepted asked job).status ≡ end_of job
+run_due mode.Run job runs built = ap (λ (o : Option Spot). (due_to_world shown.Journal job o).status) built
+run_due mode.Wire job runs built = ap (λ (o : Option Spot). (due_to_world shown.Wire job o).status) built
+run_due mode.Check job runs built = absurd (no_run runs)
+  where
+    no_run : AsksRun (Some mode.Check) → ⊥
+    no_run runs = elim runs as (λ _. ⊥) [ inl e ↦ absurd cc | inr e ↦ absurd cc ]
+
+pub ends_as_due : (words : List (List ℕ)) (source source' : SourceState) (sink sink' : SinkState) (s : Status) → Ends words source source' sink sink' s →
+    (job : Job) (asked : Mode) → AsksRun (Some asked) → IsGiven asked words source job → first_unbuilt job ≡ None → IsUnlessCut (end_of job) s
+ends_as_due words source source' sink sink' s e job asked runs given built =
+    subst (λ (d : Status). IsUnlessCut d s) (ap (λ (d : Due). d.status) (given_due asked words source job given) ∙ run_due asked job runs built)
+    (is_due words source source' sink sink' s e given.text given.told)
 
 -- a job that is given is printed
 pub is_printed : (words : List (List ℕ)) (source source' : SourceState) (sink sink' : SinkState) (s : Status) → Ends words source source' sink sink' s →
@@ -249,3 +376,5 @@ is_printed words source source' sink sink' (BadJob refusal spot) e job given =
 is_printed words source source' sink sink' ReadFault e job given = tt
 is_printed words source source' sink sink' WriteFault e job given = tt
 is_printed words source source' sink sink' NoMemory e job given = tt
+is_printed words source source' sink sink' Unfinished e job given =
+    not_unfinished (other_status _ _ _ _ (given_is mode.Check words source source' job given e.0 e.1) e.2 refl)

@@ -3,7 +3,7 @@ use Rattle.std.proofs.Common.{◌≡◌, ℕ, inl, inr, List, [], ◌++◌, Opti
 use Rattle.fx_io.specs.Faults.{Rose}
 use Rattle.fx_io.specs.States.{SourceState, SinkState}
 use Rattle.fx_cli.specs.declared.status.Status.{Status}
-use Rattle.fx_cli.specs.declared.status.Status.TheVariants.{Done, BadWords, BadJob, ReadFault, WriteFault, NoMemory}
+use Rattle.fx_cli.specs.declared.status.Status.TheVariants.{Done, BadWords, BadJob, ReadFault, WriteFault, NoMemory, Unfinished}
 use Rattle.fx_cli.specs.Dues.{Input, IsInput, input_of, Due, due_to}
 use Rattle.fx_cli.specs.Ends.{Answered, AnsweredInPart, StoppedReading, Ends, IsInMemory}
 use Rattle.fx_cli.proofs.Ending.{input_is}
@@ -52,3 +52,4 @@ in_memory words held left written WriteFault e r w = no_rise (w refl)
 in_memory words held left written NoMemory e r w =
     elim e as (λ _. (rest : List ℕ) × ((due_to (input_of words held)).output ≡ written ++ rest))
     [ inl part ↦ in_part words held left written part | inr none ↦ nothing words held left written (due_to (input_of words held)).output none ]
+in_memory words held left written Unfinished e r w = whole words held left written Unfinished e

@@ -3,6 +3,6 @@ pub mod Texts
 pub mod Marks
 pub mod Plain
 pub mod Legality
-pub mod Body
+pub mod Runs
 pub mod Ending
 pub mod InMemory

@@ -9,7 +9,6 @@ use Rattle.fx_script.specs.declared.expr.Expr.{Expr}
 use Rattle.fx_script.specs.declared.job.Stmt.{Stmt}
 use Rattle.fx_script.specs.declared.job.Stmt.TheVariants as stmt
 use Rattle.fx_script.specs.declared.job.Stmt.TheOpen.{Stmt-F}
-use Rattle.fx_script.specs.declared.job.Stmt.TheViews.{roll-Stmt}
 use Rattle.fx_script.specs.declared.job.Stmt.TheFolds.{fold-roll-Stmt}
 use Rattle.fx_script.specs.declared.job.Test.{Test}
 use Rattle.fx_cli.specs.Built.{Mark, first_in, stmt_marks_level, stmt_marks, body_marks}

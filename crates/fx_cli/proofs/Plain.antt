@@ -1,22 +1,21 @@
--- A job whose lines can all be run: one rank, no spare, no event, and a body that only prints.
+-- A job whose lines can all be run: its body asks nothing, and nobody is killed in its schedule.
 use Rattle.std.proofs.Common.{◌≡◌, Bool, true, false, if◌then◌else◌, List, [], ◌∷◌, ◌++◌, map, Option, Some, None, refl, sym, subst}
-use Rattle.std.specs.Prelude.{pos}
 use Rattle.std.specs.List.{list_all}
-use Rattle.std.specs.Ordering.{int_eq}
-use Rattle.std.proofs.lemmas.Bool.Decides.{Decides-int_eq}
 use Rattle.fx_base.specs.declared.spot.Spot.{Spot}
-use Rattle.fx_check.specs.Facts.{facts_of}
 use Rattle.fx_script.specs.declared.job.Event.{Event}
+use Rattle.fx_script.specs.declared.job.EventKind.{EventKind}
+use Rattle.fx_script.specs.declared.job.EventKind.TheVariants as event
 use Rattle.fx_script.specs.declared.job.Job.{Job}
 use Rattle.fx_script.specs.declared.job.Stmt.{Stmt}
 use Rattle.fx_script.specs.declared.job.Stmt.TheOpen.{Stmt-F}
 use Rattle.fx_script.specs.declared.job.Stmt.TheViews.{roll-Stmt}
 use Rattle.fx_script.specs.declared.job.Stmt.TheFolds.{fold-roll-Stmt, map-Stmt, ind-Stmt}
 use Rattle.fx_script.specs.Spelling.{IsWritable, chained}
-use Rattle.fx_walk.specs.Lengths.{OnlyPrints, all_true, plain_level, is_plain}
-use Rattle.fx_walk.proofs.Plain.{only_prints}
-use Rattle.fx_cli.specs.Built.{Mark, mark, first_in, stmt_marks_level, stmt_marks, body_marks, event_mark, head_marks, first_unbuilt}
-use Rattle.fx_cli.specs.Journal.{body_walk}
+use Rattle.fx_walk.specs.Lengths.{all_true, plain_level, is_plain}
+use Rattle.fx_fleet.specs.Runs.{AsksNothing, moment_of, moments_of}
+use Rattle.fx_calm.specs.Calm.{is_calm}
+use Rattle.fx_calm.proofs.Legality.{plain_asks_nothing}
+use Rattle.fx_cli.specs.Built.{Mark, first_in, stmt_marks_level, stmt_marks, body_marks, is_built_event, event_mark, first_unbuilt}
 
 -- a first line that can be run, and no other that can't
 built_first : (built : Bool) (spot : Spot) (later : Option Spot) → (if built then later else Some spot) ≡ None → (built ≡ true) × (later ≡ None)
@@ -82,29 +81,24 @@ plain_body (s ∷ body) built =
 
 -- ---- jobs
 
-no_events : (events : List Event) → first_in (map event_mark events) ≡ None → events ≡ []
-no_events [] built = refl
-no_events (e ∷ events) built = absurd cc
+calm_kind : (kind : EventKind) → is_built_event kind ≡ true → is_calm (moment_of kind) ≡ true
+calm_kind (event.Step p) built = refl
+calm_kind (event.Rest p) built = refl
+calm_kind (event.Deliver p q) built = refl
+calm_kind (event.Kill p) built = absurd cc
+calm_kind (event.Notice p q) built = absurd cc
+calm_kind (event.Run count) built = refl
 
-pub record IsAlone (job : Job) : Type 0 where
-  pub ranks : job.ranks ≡ pos 1
-  pub spares : job.spares ≡ pos 0
-  pub events : job.events ≡ []
-  pub plain : list_all is_plain job.body ≡ true
+calm_events : (events : List Event) → first_in (map event_mark events) ≡ None → list_all is_calm (map (λ e. moment_of e.kind) events) ≡ true
+calm_events [] built = refl
+calm_events (e ∷ events) built =
+    let first = built_first (is_built_event e.kind) e.spot (first_in (map event_mark events)) built in
+    rw (calm_kind e.kind first.0, calm_events events first.1) refl
 
-pub is_alone : (job : Job) → first_unbuilt job ≡ None → IsAlone job
-is_alone job built =
-    let heads = both_built (head_marks job) (body_marks job.body ++ map event_mark job.events) built in
-    let ranks = built_first (int_eq job.ranks (pos 1)) job.ranks_spot (first_in (mark job.spares_spot (int_eq job.spares (pos 0)) ∷ [])) heads.0 in
-    let spares = built_first (int_eq job.spares (pos 0)) job.spares_spot None ranks.1 in
-    let rest = both_built (body_marks job.body) (map event_mark job.events) heads.1 in
-    record {
-      ranks = (Decides-int_eq job.ranks (pos 1)).0 ranks.0;
-      spares = (Decides-int_eq job.spares (pos 0)).0 spares.0;
-      events = no_events job.events rest.1;
-      plain = plain_body job.body rest.0;
-    }
+-- its body asks nothing
+pub asks_nothing : (job : Job) → IsWritable job → first_unbuilt job ≡ None → AsksNothing job
+asks_nothing job writable built = plain_asks_nothing job writable (plain_body job.body (both_built (body_marks job.body) (map event_mark job.events) built).0)
 
--- its body only prints
-pub body_only_prints : (job : Job) → IsWritable job → first_unbuilt job ≡ None → OnlyPrints (body_walk job)
-body_only_prints job writable built = only_prints (facts_of job) job.body 64 writable.body (is_alone job built).plain _ _
+-- nobody is killed in its schedule
+pub calm_schedule : (job : Job) → first_unbuilt job ≡ None → list_all is_calm (moments_of job) ≡ true
+calm_schedule job built = calm_events job.events (both_built (body_marks job.body) (map event_mark job.events) built).1

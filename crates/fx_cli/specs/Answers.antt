@@ -7,7 +7,7 @@ use Rattle.fx_script.specs.declared.refusal.JobFault.TheVariants.{NotAscii, Line
 use Rattle.fx_cli.specs.declared.status.Refusal.{Refusal}
 use Rattle.fx_cli.specs.declared.status.Refusal.TheVariants.{TooBig, Text, Static, NotBuilt}
 use Rattle.fx_cli.specs.declared.status.Status.{Status}
-use Rattle.fx_cli.specs.declared.status.Status.TheVariants.{Done, BadWords, BadJob, ReadFault, WriteFault, NoMemory}
+use Rattle.fx_cli.specs.declared.status.Status.TheVariants.{Done, BadWords, BadJob, ReadFault, WriteFault, NoMemory, Unfinished}
 
 -- the code of a status
 abbrev pub code_of : Status → ℕ
@@ -17,6 +17,7 @@ code_of (BadJob refusal spot) = 3
 code_of ReadFault = 4
 code_of WriteFault = 5
 code_of NoMemory = 6
+code_of Unfinished = 7
 
 -- the word for a refusal
 abbrev pub reason_of : Refusal → List ℕ

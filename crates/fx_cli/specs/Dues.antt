@@ -1,5 +1,5 @@
 -- What is due to what comes in: the status and what is written.
-use Rattle.std.specs.Prelude.{◌≡◌, ℕ, ◌<◌, ◌≤◌, true, nat_lt, if◌then◌else◌, List, [], ◌∷◌, length, codes, Option, Some, None, is_some, Result, Ok, Err, refl}
+use Rattle.std.specs.Prelude.{◌≡◌, ℕ, ◌<◌, ◌≤◌, Bool, true, nat_lt, if◌then◌else◌, List, [], ◌∷◌, length, codes, Option, Some, None, is_some, Result, Ok, Err, refl}
 use Rattle.std.specs.Str.{bytes_eq}
 use Rattle.fx_base.specs.declared.spot.Spot.{Spot}
 use Rattle.fx_io.specs.Reading.{Came}
@@ -8,14 +8,19 @@ use Rattle.fx_script.specs.declared.job.Job.{Job}
 use Rattle.fx_script.specs.Canonical.{canonical}
 use Rattle.fx_script.specs.Reading.{Refusal, job_in}
 use Rattle.fx_check.specs.Acceptance.{Refused, refusal_of}
+use Rattle.fx_check.specs.Work.{bound_of}
+use Rattle.fx_fleet.specs.Rounds.{is_unfinished}
+use Rattle.fx_fleet.specs.Runs.{job_setup, rest_bound_of, moments_of, wire_of}
+use Rattle.fx_world.specs.declared.shown.Shown.{Shown}
+use Rattle.fx_world.specs.declared.shown.Shown.TheVariants as shown
+use Rattle.fx_world.specs.Texts.{shown_text}
 use Rattle.fx_cli.specs.declared.mode.Mode.{Mode}
 use Rattle.fx_cli.specs.declared.mode.Mode.TheVariants as mode
 use Rattle.fx_cli.specs.declared.status.Refusal.TheVariants.{TooBig, Text, Static, NotBuilt}
 use Rattle.fx_cli.specs.declared.status.Status.{Status}
-use Rattle.fx_cli.specs.declared.status.Status.TheVariants.{Done, BadWords, BadJob}
+use Rattle.fx_cli.specs.declared.status.Status.TheVariants.{Done, BadWords, BadJob, Unfinished}
 use Rattle.fx_cli.specs.Answers.{words_line, refusal_line}
 use Rattle.fx_cli.specs.Built.{first_unbuilt}
-use Rattle.fx_cli.specs.Journal.{journal_of, text_of}
 
 -- the most bytes that a job may have
 abbrev pub longest_job : ℕ
@@ -23,7 +28,9 @@ longest_job = 1048576
 
 -- the mode of this name
 abbrev pub mode_named : List ℕ → Option Mode
-mode_named word = if bytes_eq word (codes "run") then Some mode.Run else (if bytes_eq word (codes "check") then Some mode.Check else None)
+mode_named word =
+    if bytes_eq word (codes "run") then Some mode.Run
+    else (if bytes_eq word (codes "wire") then Some mode.Wire else (if bytes_eq word (codes "check") then Some mode.Check else None))
 
 -- the mode that words ask for: one word alone, its name
 abbrev pub mode_of : List (List ℕ) → Option Mode
@@ -61,14 +68,23 @@ pub record Due : Type 0 where
 abbrev pub due_refusal : Rattle.fx_cli.specs.declared.status.Refusal.Refusal → Spot → Due
 due_refusal refusal spot = record { status = BadJob refusal spot; output = refusal_line refusal spot }
 
--- the run of an accepted job: its journal, or the refusal of its first line that can't be run yet
-abbrev pub due_to_run : Job → Option Spot → Due
-due_to_run job None = record { status = Done; output = text_of (journal_of job) }
-due_to_run job (Some spot) = due_refusal NotBuilt spot
+-- the rounds of the tail are over, and a living process of the job hasn't ended
+abbrev pub is_left_unfinished : Job → Bool
+is_left_unfinished job = is_unfinished (job_setup job) (rest_bound_of job) (bound_of job) (moments_of job)
 
--- an accepted job: its run, or its canonical text
+-- how a run ends where nothing cuts it short
+abbrev pub end_of : Job → Status
+end_of job = if is_left_unfinished job then Unfinished else Done
+
+-- the run of the world of an accepted job: the lines of those items that are shown, or the refusal of its first line that can't be run yet
+abbrev pub due_to_world : Shown → Job → Option Spot → Due
+due_to_world shown job None = record { status = end_of job; output = shown_text shown (wire_of job) }
+due_to_world shown job (Some spot) = due_refusal NotBuilt spot
+
+-- an accepted job: its journal, all that happens in it, or its canonical text
 abbrev pub due_to_accepted : Mode → Job → Due
-due_to_accepted mode.Run job = due_to_run job (first_unbuilt job)
+due_to_accepted mode.Run job = due_to_world shown.Journal job (first_unbuilt job)
+due_to_accepted mode.Wire job = due_to_world shown.Wire job (first_unbuilt job)
 due_to_accepted mode.Check job = record { status = Done; output = canonical job }
 
 -- a job that was read: where it breaks a rule, the refusal for the first reason
@@ -95,6 +111,9 @@ no_words = refl
 two_words : mode_of (codes "run" ∷ codes "check" ∷ []) ≡ None
 two_words = refl
 
--- the second mode
+-- the other modes
+wired : mode_of (codes "wire" ∷ []) ≡ Some mode.Wire
+wired = refl
+
 checked : mode_of (codes "check" ∷ []) ≡ Some mode.Check
 checked = refl

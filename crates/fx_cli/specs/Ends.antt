@@ -1,24 +1,30 @@
 -- How a call of the program ends.
-use Rattle.std.specs.Prelude.{◌≡◌, ℕ, ◌≤◌, ◌⊎◌, true, List, ◌++◌, length, Option, Some, None, is_some, Result, Ok, Err, refl}
+use Rattle.std.specs.Prelude.{◌≡◌, ℕ, ◌≤◌, ◌⊎◌, true, false, List, ◌++◌, length, Option, Some, None, is_some, Result, Ok, Err, refl}
 use Rattle.fx_base.specs.declared.spot.Spot.{Spot}
 use Rattle.fx_check.specs.Acceptance.{IsAccepted}
+use Rattle.fx_io.specs.Faults.{Rose}
 use Rattle.fx_io.specs.Reading.{Came}
 use Rattle.fx_io.specs.States.{SourceState, SinkState}
 use Rattle.fx_io.specs.Told.{Loses, IsAtEnd, Gains, GainsFront}
 use Rattle.fx_io.specs.Writing.{Puts}
 use Rattle.fx_io.specs.declared.whole.PutEnd.{PutEnd}
 use Rattle.fx_io.specs.declared.whole.PutEnd.TheVariants as put_end
+use Rattle.fx_item.specs.declared.item.Item.{Item}
 use Rattle.fx_script.specs.declared.job.Job.{Job}
 use Rattle.fx_script.specs.Canonical.{SpellsAlone, canonical}
 use Rattle.fx_script.specs.Spelling.{Spells}
 use Rattle.fx_cli.specs.declared.mode.Mode.{Mode}
 use Rattle.fx_cli.specs.declared.mode.Mode.TheVariants as mode
 use Rattle.fx_cli.specs.declared.status.Status.{Status}
-use Rattle.fx_cli.specs.declared.status.Status.TheVariants.{Done, BadWords, BadJob, ReadFault, WriteFault, NoMemory}
+use Rattle.fx_cli.specs.declared.status.Status.TheVariants.{Done, BadWords, BadJob, ReadFault, WriteFault, NoMemory, Unfinished}
 use Rattle.fx_cli.specs.Built.{first_unbuilt}
-use Rattle.fx_cli.specs.Dues.{longest_job, mode_of, Input, IsInput, Due, due_to}
-use Rattle.fx_cli.specs.Journal.{journal_of, text_of}
+use Rattle.fx_cli.specs.Dues.{longest_job, mode_of, Input, IsInput, Due, due_to, is_left_unfinished}
+use Rattle.fx_fleet.specs.Runs.{wire_of, journal_of}
 use Rattle.fx_legal.specs.Legal.{IsLegalWhole, AllHaveEnded}
+use Rattle.fx_world.specs.declared.end.RunEnd.{RunEnd}
+use Rattle.fx_world.specs.declared.end.RunEnd.TheVariants as run_end
+use Rattle.fx_world.specs.declared.shown.Shown.{Shown}
+use Rattle.fx_world.specs.Texts.{shown_text, text_of}
 
 -- what is due is written whole, with its status, or a front of it up to a fault or to want of memory
 abbrev pub Settles : Due → SinkState → SinkState → Status → Type 0
@@ -28,6 +34,7 @@ Settles due sink sink' (BadJob refusal spot) = (BadJob refusal spot ≡ due.stat
 Settles due sink sink' ReadFault = ⊥
 Settles due sink sink' WriteFault = Puts sink sink' due.output (Err put_end.Failed)
 Settles due sink sink' NoMemory = Puts sink sink' due.output (Err put_end.NoMemory)
+Settles due sink sink' Unfinished = (Unfinished ≡ due.status) × Puts sink sink' due.output (Ok tt)
 
 -- what came in is answered: the status is the one that is due, and all that is due was written, and nothing else
 abbrev pub Answered : List (List ℕ) → SourceState → SourceState → SinkState → SinkState → Status → Type 0
@@ -53,6 +60,7 @@ Ends words source source' sink sink' ReadFault = StoppedReading words source sou
 Ends words source source' sink sink' WriteFault = AnsweredInPart words source source' sink sink'
 Ends words source source' sink sink' NoMemory =
     AnsweredInPart words source source' sink sink' ⊎ StoppedReading words source source' sink sink'
+Ends words source source' sink sink' Unfinished = Answered words source source' sink sink' Unfinished
 
 -- a job is taken: the source is read to its end, and its text, which is short enough, spells the job, which is accepted
 pub record Takes (source source' : SourceState) (job : Job) : Type 0 where
@@ -63,13 +71,28 @@ pub record Takes (source source' : SourceState) (job : Job) : Type 0 where
   pub spelled : Spells text job
   pub accepted : IsAccepted job
 
--- the run of a job: each of its lines can be run, its one journal is legal and tells the whole schedule, its processes end in it, and
--- exactly its text was written
-pub record IsRun (job : Job) (sink sink' : SinkState) : Type 0 where
+-- a whole run of a job: each of its lines can be run, its journal is legal and tells the whole schedule, the tail was enough, all its
+-- processes end in its journal, and exactly the text of these items was written
+pub record IsWholeRun (job : Job) (items : List Item) (sink sink' : SinkState) : Type 0 where
   pub built : first_unbuilt job ≡ None
   pub legal : IsLegalWhole job (journal_of job)
+  pub over : is_left_unfinished job ≡ false
   pub ended : AllHaveEnded job (journal_of job)
-  pub gained : Gains sink.written sink'.written (text_of (journal_of job))
+  pub gained : Gains sink.written sink'.written (text_of items)
+
+-- of all that happens in it its journal is written, or all
+abbrev pub IsRun : Job → SinkState → SinkState → Type 0
+IsRun job sink sink' = IsWholeRun job (journal_of job) sink sink'
+
+abbrev pub IsWired : Job → SinkState → SinkState → Type 0
+IsWired job sink sink' = IsWholeRun job (wire_of job) sink sink'
+
+-- a run of a job whose tail wasn't enough: its journal is legal all the same, and exactly the text of these items was written
+pub record IsUnfinishedRun (job : Job) (items : List Item) (sink sink' : SinkState) : Type 0 where
+  pub built : first_unbuilt job ≡ None
+  pub legal : IsLegalWhole job (journal_of job)
+  pub unfinished : is_left_unfinished job ≡ true
+  pub gained : Gains sink.written sink'.written (text_of items)
 
 -- the check of a job: exactly its canonical text was written, which spells it and, spots aside, no other job
 pub record IsCheck (job : Job) (sink sink' : SinkState) : Type 0 where
@@ -80,13 +103,25 @@ pub record IsCheck (job : Job) (sink sink' : SinkState) : Type 0 where
 abbrev pub DoesWhatIsAsked : Option Mode → SourceState → SourceState → SinkState → SinkState → Type 0
 DoesWhatIsAsked None source source' sink sink' = ⊥
 DoesWhatIsAsked (Some mode.Run) source source' sink sink' = (job : Job) × Takes source source' job × IsRun job sink sink'
+DoesWhatIsAsked (Some mode.Wire) source source' sink sink' = (job : Job) × Takes source source' job × IsWired job sink sink'
 DoesWhatIsAsked (Some mode.Check) source source' sink sink' = (job : Job) × Takes source source' job × IsCheck job sink sink'
+
+-- a call that ends unfinished has taken a job, and its words ask for a run, whose tail wasn't enough
+abbrev pub LeavesUnfinished : Option Mode → SourceState → SourceState → SinkState → SinkState → Type 0
+LeavesUnfinished None source source' sink sink' = ⊥
+LeavesUnfinished (Some mode.Run) source source' sink sink' = (job : Job) × Takes source source' job × IsUnfinishedRun job (journal_of job) sink sink'
+LeavesUnfinished (Some mode.Wire) source source' sink sink' = (job : Job) × Takes source source' job × IsUnfinishedRun job (wire_of job) sink sink'
+LeavesUnfinished (Some mode.Check) source source' sink sink' = ⊥
+
+-- the words ask for a run, with the journal or with all that happens
+abbrev pub AsksRun : Option Mode → Type 0
+AsksRun asked = (asked ≡ Some mode.Run) ⊎ (asked ≡ Some mode.Wire)
 
 -- a run that stops at a line that isn't built yet: the words ask for a run, the job is taken, and its first line that
 -- can't be run stands there
 pub record IsUnbuilt (words : List (List ℕ)) (source source' : SourceState) (spot : Spot) : Type 0 where
   pub job : Job
-  pub asked : mode_of words ≡ Some mode.Run
+  pub asked : AsksRun (mode_of words)
   pub taken : Takes source source' job
   pub first : first_unbuilt job ≡ Some spot
 
@@ -108,6 +143,7 @@ IsUnlessCut due (BadJob refusal spot) = BadJob refusal spot ≡ due
 IsUnlessCut due ReadFault = Unit {0}
 IsUnlessCut due WriteFault = Unit {0}
 IsUnlessCut due NoMemory = Unit {0}
+IsUnlessCut due Unfinished = Unfinished ≡ due
 
 -- a call is done, and this holds, unless a fault or want of memory cut it short
 abbrev pub IsDoneUnlessCut : Type 0 → Status → Type 0
@@ -117,6 +153,17 @@ IsDoneUnlessCut fact (BadJob refusal spot) = ⊥
 IsDoneUnlessCut fact ReadFault = Unit {0}
 IsDoneUnlessCut fact WriteFault = Unit {0}
 IsDoneUnlessCut fact NoMemory = Unit {0}
+IsDoneUnlessCut fact Unfinished = ⊥
+
+-- a call is done, and the first holds, or it ends unfinished, and the second does, unless a fault or want of memory cut it short
+abbrev pub IsDoneOrUnfinished : (done unfinished : Type 0) → Status → Type 0
+IsDoneOrUnfinished done unfinished Done = done
+IsDoneOrUnfinished done unfinished BadWords = ⊥
+IsDoneOrUnfinished done unfinished (BadJob refusal spot) = ⊥
+IsDoneOrUnfinished done unfinished ReadFault = Unit {0}
+IsDoneOrUnfinished done unfinished WriteFault = Unit {0}
+IsDoneOrUnfinished done unfinished NoMemory = Unit {0}
+IsDoneOrUnfinished done unfinished Unfinished = unfinished
 
 -- the status of a call that has written what is due, or was cut short
 abbrev pub settled : Result (Unit {0}) PutEnd → Status → Status
@@ -132,6 +179,27 @@ IsInMemory due written (BadJob refusal spot) = (BadJob refusal spot ≡ due.stat
 IsInMemory due written ReadFault = ⊥
 IsInMemory due written WriteFault = ⊥
 IsInMemory due written NoMemory = (rest : List ℕ) × (due.output ≡ written ++ rest)
+IsInMemory due written Unfinished = (Unfinished ≡ due.status) × (written ≡ due.output)
+
+-- what a run leaves written, by its answer: all these lines, where its tail was enough and where it wasn't; or a front of them
+abbrev pub RunAdds : Job → Option (List ℕ) → Option (List ℕ) → List ℕ → Result (Unit {0}) RunEnd → Type 0
+RunAdds job old new lines (Ok done) = (is_left_unfinished job ≡ false) × Gains old new lines
+RunAdds job old new lines (Err run_end.Unfinished) = (is_left_unfinished job ≡ true) × Gains old new lines
+RunAdds job old new lines (Err run_end.WriteFault) = GainsFront old new lines
+RunAdds job old new lines (Err run_end.NoMemory) = GainsFront old new lines
+
+-- a run of a job: the lines of those items that are shown are written, or a front of them up to a fault or to want of memory
+pub record WritesRun (job : Job) (shown : Shown) (sink sink' : SinkState) (answer : Result (Unit {0}) RunEnd) : Type 0 where
+  pub content : RunAdds job sink.written sink'.written (shown_text shown (wire_of job)) answer
+  pub count_never_falls : sink.faults ≤ sink'.faults
+  pub failed_only_if_count_rose : answer ≡ Err run_end.WriteFault → Rose sink.faults sink'.faults
+
+-- the status of a call that has run a job
+abbrev pub status_of_run : Result (Unit {0}) RunEnd → Status
+status_of_run (Ok done) = Done
+status_of_run (Err run_end.Unfinished) = Unfinished
+status_of_run (Err run_end.WriteFault) = WriteFault
+status_of_run (Err run_end.NoMemory) = NoMemory
 
 -- a fault while the line of a refusal is written
 fault_first : settled (Err put_end.Failed) BadWords ≡ WriteFault

@@ -1,33 +1,18 @@
 ghost use Rattle.std.specs.Prelude.{◌≡◌, map};
-ghost use Rattle.fx_cli.specs.Built.{body_marks, event_mark, first_in, first_unbuilt, head_marks, stmt_marks};
+ghost use Rattle.fx_cli.specs.Built.{body_marks, event_mark, first_in, first_unbuilt, is_built_event, stmt_marks};
 
 use fx_base::Spot;
-use fx_script::{Event, Job, Stmt};
+use fx_script::{Event, EventKind, Job, Stmt};
 
 /// The place of the first line of an accepted job that can't be run yet.
 #[tactic(auto, using(crate::proofs::Marks::first_front, crate::proofs::Marks::first_back))]
 pub fn first_unbuilt(job: &Job) -> Option<Spot>
     ensures { result ≡ first_unbuilt job.now }
 {
-    if let Some(spot) = first_head(job) {
-        return Some(spot);
-    }
     if let Some(spot) = first_of_body(job.body.as_slice()) {
         return Some(spot);
     }
     first_event(job.events.as_slice())
-}
-
-fn first_head(job: &Job) -> Option<Spot>
-    ensures { result ≡ first_in (head_marks job.now) }
-{
-    if job.ranks != 1 {
-        Some(job.ranks_spot)
-    } else if job.spares != 0 {
-        Some(job.spares_spot)
-    } else {
-        None
-    }
 }
 
 #[cycle(first_of_body)]
@@ -68,5 +53,22 @@ fn first_of(statement: &Stmt) -> Option<Spot>
 fn first_event(events: &[Event]) -> Option<Spot>
     ensures { result ≡ first_in (map event_mark events.now) }
 {
-    Some(events.first()?.spot)
+    for event in events {
+        if !is_built_event(event.kind) {
+            return Some(event.spot);
+        }
+    }
+    None
+}
+
+// Whether the event is one in which nobody is lost.
+fn is_built_event(kind: EventKind) -> bool
+    ensures { result ≡ is_built_event kind }
+{
+    match kind {
+        EventKind::Step(_) | EventKind::Rest(_) | EventKind::Deliver(_, _) | EventKind::Run(_) => {
+            true
+        }
+        EventKind::Kill(_) | EventKind::Notice(_, _) => false,
+    }
 }

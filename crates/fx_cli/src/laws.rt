@@ -1,14 +1,16 @@
 //! Laws of the definitions alone.
 
-ghost use Rattle.std.specs.Prelude.{◌≡◌, None};
+ghost use Rattle.std.specs.Prelude.{◌≡◌, None, false};
+ghost use Rattle.fx_fleet.specs.Runs.{journal_of};
 ghost use Rattle.fx_legal.specs.Legal.{AllHaveEnded, IsLegalWhole};
 ghost use Rattle.fx_script.specs.Spelling.{IsWritable};
 ghost use Rattle.fx_script.specs.declared.job.Job.{Job};
 ghost use Rattle.fx_cli.specs.Built.{first_unbuilt};
-ghost use Rattle.fx_cli.specs.Journal.{journal_of};
+ghost use Rattle.fx_cli.specs.Dues.{is_left_unfinished};
 
-/// The journal of each job that can be written and run is legal, and its process ends in it.
+/// The journal of each job that can be written and run is legal and tells its whole schedule. Where the tail is enough, each
+/// process ends in it.
 pub fn journals_are_legal()
     ensures legal { (job : Job) → IsWritable job → first_unbuilt job ≡ None → IsLegalWhole job (journal_of job) }
-    ensures whole { (job : Job) → IsWritable job → first_unbuilt job ≡ None → AllHaveEnded job (journal_of job) }
+    ensures whole { (job : Job) → IsWritable job → first_unbuilt job ≡ None → is_left_unfinished job ≡ false → AllHaveEnded job (journal_of job) }
 {}

@@ -4,8 +4,10 @@ ghost use Rattle.fx_cli.specs.Dues.{mode_named, mode_of};
 /// What the program is asked to do with a job.
 #[derive(Clone, Copy, Debug, PartialEq, Eq)]
 pub(crate) enum Mode {
-    /// To run it.
+    /// To run it, and to print its journal.
     Run,
+    /// To run it, and to print all that happens: what is sent, delivered and told lost, too.
+    Wire,
     /// To check it, and to print its canonical text.
     Check,
 }
@@ -26,6 +28,8 @@ fn mode_named(word: &str) -> Option<Mode>
 {
     if word == "run" {
         Some(Mode::Run)
+    } else if word == "wire" {
+        Some(Mode::Wire)
     } else if word == "check" {
         Some(Mode::Check)
     } else {

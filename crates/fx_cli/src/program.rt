@@ -1,23 +1,25 @@
 ghost use Rattle.std.specs.Prelude.{◌≡◌, ◌≤◌, ℕ, List, IfOk, None, Ok, Some, length, map, string_bytes};
+ghost use Rattle.fx_fleet.specs.Runs.{journal_of, wire_of};
 ghost use Rattle.fx_io.specs.Faults.{Rose};
 ghost use Rattle.fx_check.specs.Acceptance.{refusal_of};
 ghost use Rattle.fx_script.specs.Canonical.{HasText};
 ghost use Rattle.fx_script.specs.Reading.{job_in};
 ghost use Rattle.fx_cli.specs.Answers.{refusal_line};
 ghost use Rattle.fx_cli.specs.Built.{first_unbuilt};
-ghost use Rattle.fx_cli.specs.Dues.{WrongWords, due_refusal, due_to, due_to_accepted, due_to_job, due_to_reading, due_to_run, input_of, longest_job, mode_of};
-ghost use Rattle.fx_cli.specs.Ends.{DoesWhatIsAsked, Ends, IsCheck, IsDoneUnlessCut, IsGiven, IsRun, IsUnbuilt, IsUnlessCut, Settles, settled};
+ghost use Rattle.fx_cli.specs.Dues.{WrongWords, due_refusal, due_to, due_to_accepted, due_to_job, due_to_reading, due_to_world, end_of, input_of, longest_job, mode_of};
+ghost use Rattle.fx_cli.specs.Ends.{AsksRun, DoesWhatIsAsked, Ends, IsCheck, IsDoneOrUnfinished, IsDoneUnlessCut, IsGiven, IsRun, IsUnbuilt, IsUnfinishedRun, IsUnlessCut, IsWired, LeavesUnfinished, Settles, settled, status_of_run};
 
 use crate::built::first_unbuilt;
 use crate::canon::write_canonical;
 use crate::mode::{Mode, mode_of};
-use crate::run::write_journal;
+use crate::run::write_run;
 use crate::status::{Refusal, Status, reason_of};
 use fx_base::{Bytes, NoMemory, Spot};
 use fx_check::{Accepted, CheckJob, check_job};
 use fx_io::{PutEnd, Sink, Source, WholeEnd, read_whole, write_whole};
 use fx_script::{Job, ReadJob, read_job};
 use fx_text::push_number;
+use fx_world::{RunEnd, Shown};
 use std::alloc::Global;
 
 /// The most bytes that a job may have.
@@ -25,9 +27,10 @@ const LONGEST_JOB: usize = 1_048_576;
 
 /// Runs the program: from its words and what the source holds to what the sink gets.
 ///
-/// It knows the words `run` and `check`, one of them alone. The source is read to its end, the text must spell a job,
-/// and the job must be accepted. Then `check` writes the job's canonical text, and `run` the journal of its run if
-/// each of its lines can be run. Each line is written as one piece with its line end. A refusal is one line.
+/// It knows the words `run`, `wire` and `check`, one of them alone. The source is read to its end, the text must spell a
+/// job, and the job must be accepted. Then `check` writes the job's canonical text. If each of its lines can be run, `run`
+/// writes the journal of its run, and `wire` all that happens in it. Each line is written as one piece with its line end. A
+/// refusal is one line.
 pub fn fenix<S: Source, K: Sink>(
     alloc: Global,
     words: &[String],
@@ -36,16 +39,24 @@ pub fn fenix<S: Source, K: Sink>(
 ) -> Status
     // What was read and written, by the status.
     ensures ends { Ends (map string_bytes words.now) (S.state source.old) (S.state source.new) (K.state sink.old) (K.state sink.new) result }
-    // Done: a text of an accepted job was read. In mode run each of its lines can be run, and exactly the text of its one
-    // journal was written, which is legal; in mode check its canonical text was.
+    // Done: a text of an accepted job was read. In modes run and wire each of its lines can be run, its journal is legal, each
+    // process ends in it, and exactly the text of its journal was written, or of all that happens; in mode check its canonical
+    // text was.
     ensures done { result ≡ Status.Done → DoesWhatIsAsked (mode_of (map string_bytes words.now)) (S.state source.old) (S.state source.new) (K.state sink.old) (K.state sink.new) }
-    // Not built: in mode run alone, and the source held a text of an accepted job whose first line that can't be run is there.
+    // Unfinished: in modes run and wire alone, the tail of an accepted job's run wasn't enough, and all of the text was written.
+    ensures unfinished { result ≡ Status.Unfinished → LeavesUnfinished (mode_of (map string_bytes words.now)) (S.state source.old) (S.state source.new) (K.state sink.old) (K.state sink.new) }
+    // Not built: in modes run and wire alone, and the source held a text of an accepted job whose first line that can't be run is there.
     ensures not_built_is_accepted { (spot : Spot) → result ≡ Status.BadJob Refusal.NotBuilt spot → IsUnbuilt (map string_bytes words.now) (S.state source.old) (S.state source.new) spot }
     // Where the source tells what it holds, that and the words fix the status, unless a fault or want of memory cuts the call short.
     ensures status_is_due { (held : List ℕ) → (S.state source.old).left ≡ Some held → IsUnlessCut (due_to (input_of (map string_bytes words.now) held)).status result }
     // The source tells a text that spells an accepted job each line of which can be run, and the words ask for its run: the
-    // call is done, unless it is cut short, and exactly the text of the job's one journal was written, which is legal.
-    ensures jobs_are_run { (job : Job) → IsGiven Mode.Run (map string_bytes words.now) (S.state source.old) job → first_unbuilt job ≡ None → IsDoneUnlessCut (IsRun job (K.state sink.old) (K.state sink.new)) result }
+    // call is done, or unfinished where the tail isn't enough, unless it is cut short. Exactly the text of the job's journal was
+    // written, which is legal.
+    ensures jobs_are_run { (job : Job) → IsGiven Mode.Run (map string_bytes words.now) (S.state source.old) job → first_unbuilt job ≡ None → IsDoneOrUnfinished (IsRun job (K.state sink.old) (K.state sink.new)) (IsUnfinishedRun job (journal_of job) (K.state sink.old) (K.state sink.new)) result }
+    // The same with the word wire: exactly the text of all that happens was written.
+    ensures jobs_are_wired { (job : Job) → IsGiven Mode.Wire (map string_bytes words.now) (S.state source.old) job → first_unbuilt job ≡ None → IsDoneOrUnfinished (IsWired job (K.state sink.old) (K.state sink.new)) (IsUnfinishedRun job (wire_of job) (K.state sink.old) (K.state sink.new)) result }
+    // With either word the call is unfinished exactly where the tail isn't enough, unless it is cut short.
+    ensures unfinished_where_due { (job : Job) (asked : Mode) → AsksRun (Some asked) → IsGiven asked (map string_bytes words.now) (S.state source.old) job → first_unbuilt job ≡ None → IsUnlessCut (end_of job) result }
     // The same with the word check: exactly the canonical text of the job was written.
     ensures accepted_jobs_are_printed { (job : Job) → IsGiven Mode.Check (map string_bytes words.now) (S.state source.old) job → IsDoneUnlessCut (IsCheck job (K.state sink.old) (K.state sink.new)) result }
     ensures read_fault_only_if_count_rose { result ≡ Status.ReadFault → Rose (S.state source.old).faults (S.state source.new).faults }
@@ -104,19 +115,20 @@ fn answer_accepted<K: Sink>(alloc: Global, mode: Mode, job: &Accepted, sink: &mu
     ensures { Settles (due_to_accepted mode job.now) (K.state sink.old) (K.state sink.new) result }
 {
     match mode {
-        Mode::Run => run(alloc, job, sink),
+        Mode::Run => run(alloc, job, Shown::Journal, sink),
+        Mode::Wire => run(alloc, job, Shown::Wire, sink),
         Mode::Check => settled(write_canonical(alloc, job.job(), sink), Status::Done),
     }
 }
 
 // Runs an accepted job, or refuses it at its first line that can't be run yet.
-fn run<K: Sink>(alloc: Global, job: &Accepted, sink: &mut K) -> Status
+fn run<K: Sink>(alloc: Global, job: &Accepted, shown: Shown, sink: &mut K) -> Status
     requires { HasText job.now }
-    ensures { Settles (due_to_run job.now (first_unbuilt job.now)) (K.state sink.old) (K.state sink.new) result }
+    ensures { Settles (due_to_world shown job.now (first_unbuilt job.now)) (K.state sink.old) (K.state sink.new) result }
 {
     match first_unbuilt(job.job()) {
         Some(spot) => refuse(alloc, Refusal::NotBuilt, spot, sink),
-        None => settled(write_journal(alloc, job, sink), Status::Done),
+        None => status_of_run(write_run(alloc, job, shown, sink)),
     }
 }
 
@@ -162,5 +174,17 @@ fn settled(put: Result<(), PutEnd>, status: Status) -> Status
         Ok(()) => status,
         Err(PutEnd::Failed) => Status::WriteFault,
         Err(PutEnd::NoMemory) => Status::NoMemory,
+    }
+}
+
+// The status of a call that has run a job.
+fn status_of_run(end: Result<(), RunEnd>) -> Status
+    ensures { result ≡ status_of_run end }
+{
+    match end {
+        Ok(()) => Status::Done,
+        Err(RunEnd::Unfinished) => Status::Unfinished,
+        Err(RunEnd::WriteFault) => Status::WriteFault,
+        Err(RunEnd::NoMemory) => Status::NoMemory,
     }
 }

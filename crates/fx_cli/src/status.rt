@@ -23,7 +23,7 @@ pub enum Refusal {
 pub enum Status {
     /// All was written.
     Done,
-    /// The words weren't one word alone, `run` or `check`, and nothing was read.
+    /// The words weren't one word alone, `run`, `wire` or `check`, and nothing was read.
     BadWords,
     /// The job was refused, and where.
     BadJob(Refusal, Spot),
@@ -33,6 +33,8 @@ pub enum Status {
     WriteFault,
     /// Memory ran out, and a front of what was due was written.
     NoMemory,
+    /// All was written, and the rounds behind the schedule were over before each living process had ended.
+    Unfinished,
 }
 
 /// The code with which the program ends.
@@ -46,6 +48,7 @@ pub fn code(status: &Status) -> u8
         Status::ReadFault => 4,
         Status::WriteFault => 5,
         Status::NoMemory => 6,
+        Status::Unfinished => 7,
     }
 }
 

@@ -13,7 +13,16 @@ const JOURNAL: &str =
     "join 0 1 start\nrepaired 0 1 1 full : 0=0\ninit 0 1 initial 0 0 1 full\nprint 0 1 a : 0 0 0\nprint 0 1 a : 0 0 0\njoin 0 2 final\nended 0\n";
 
 const TWO_RANKS: &str =
-    "fenix 1\nranks 2\nspares 0\nseparation 1\narray a 3\nbegin\nprint a\nprint a\nend\nschedule\nstop\n";
+    "fenix 1\nranks 2\nspares 0\nseparation 1\narray a 1\nbegin\nprint a\nend\nschedule\nstop\n";
+
+const JOURNAL_OF_TWO: &str =
+    "join 0 1 start\njoin 1 1 start\nrepaired 1 1 2 full : 0=0 1=1\ninit 1 1 initial 1 1 2 full\nprint 1 1 a : 0\njoin 1 2 final\nrepaired 0 1 2 full : 0=0 1=1\ninit 0 1 initial 0 0 2 full\nprint 0 1 a : 0\njoin 0 2 final\nended 1\nended 0\n";
+
+const WIRE_OF_TWO: &str =
+    "join 0 1 start\nsend 0 1 join 1 start\ndeliver 0 1 join 1 start\njoin 1 1 start\nsend 1 0 join 1 start\ndeliver 1 0 join 1 start\nsend 0 1 jest 1 0 start,start\ndeliver 0 1 jest 1 0 start,start\nsend 1 0 jest 1 1 start,start\nrepaired 1 1 2 full : 0=0 1=1\ninit 1 1 initial 1 1 2 full\nprint 1 1 a : 0\njoin 1 2 final\nsend 1 0 join 2 final\ndeliver 1 0 jest 1 1 start,start\ndeliver 1 0 join 2 final\nrepaired 0 1 2 full : 0=0 1=1\ninit 0 1 initial 0 0 2 full\nprint 0 1 a : 0\njoin 0 2 final\nsend 0 1 join 2 final\nsend 0 1 jest 2 0 final,final\ndeliver 0 1 join 2 final\ndeliver 0 1 jest 2 0 final,final\nsend 1 0 jest 2 1 final,final\nended 1\ndeliver 1 0 jest 2 1 final,final\nended 0\n";
+
+const A_KILL: &str =
+    "fenix 1\nranks 2\nspares 0\nseparation 1\nbegin\nend\nschedule\nstep 0\nkill 1\nstop\n";
 
 const A_BARRIER: &str =
     "fenix 1\nranks 2\nspares 0\nseparation 1\nbegin\nbarrier\nend\nschedule\nstop\n";
@@ -74,7 +83,7 @@ fn answer_to(alloc: Global, words: &str, text: &str) -> Result<(Status, SureSink
 #[test]
 fn other_words_are_refused(rt: HostRuntime) -> Result<(), Fail> {
     let alloc = rt.alloc();
-    for words in ["run run", "walk", "run check", "checks", ""] {
+    for words in ["run run", "walk", "wire check", "wires", ""] {
         let (ended, sink) = answer_to(alloc, words, TWO_PRINTS)?;
         assert_eq!(rt; ended, Status::BadWords, "at {words}");
         assert_eq!(rt;
@@ -91,17 +100,20 @@ fn texts_are_answered(rt: HostRuntime) -> Result<(), Fail> {
     let alloc = rt.alloc();
     for (words, text, status, output) in [
         ("run", TWO_PRINTS, Status::Done, JOURNAL),
-        (
-            "run",
-            TWO_RANKS,
-            unbuilt(2),
-            "fenix: bad job: NotBuilt at 2:1\n",
-        ),
+        ("run", TWO_RANKS, Status::Done, JOURNAL_OF_TWO),
+        ("wire", TWO_PRINTS, Status::Done, JOURNAL),
+        ("wire", TWO_RANKS, Status::Done, WIRE_OF_TWO),
         (
             "run",
             A_BARRIER,
-            unbuilt(2),
-            "fenix: bad job: NotBuilt at 2:1\n",
+            unbuilt(6),
+            "fenix: bad job: NotBuilt at 6:1\n",
+        ),
+        (
+            "wire",
+            A_KILL,
+            unbuilt(9),
+            "fenix: bad job: NotBuilt at 9:1\n",
         ),
         (
             "run",

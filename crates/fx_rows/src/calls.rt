@@ -13,7 +13,7 @@ struct Row {
     code: u8,
 }
 
-const RUN_ROWS: [Row; 11] = [
+const RUN_ROWS: [Row; 15] = [
     Row {
         shows: "the prints of one rank",
         words: "run",
@@ -59,8 +59,36 @@ const RUN_ROWS: [Row; 11] = [
     Row {
         shows: "two ranks",
         words: "run",
+        source: "fenix 1|ranks 2|spares 0|separation 1|array a 1|begin|print a|end|schedule|stop|",
+        written: "join 0 1 start|join 1 1 start|repaired 1 1 2 full : 0=0 1=1|init 1 1 initial 1 1 2 full|print 1 1 a : 0|join 1 2 final|repaired 0 1 2 full : 0=0 1=1|init 0 1 initial 0 0 2 full|print 0 1 a : 0|join 0 2 final|ended 1|ended 0|",
+        code: 0,
+    },
+    Row {
+        shows: "what two ranks send",
+        words: "wire",
+        source: "fenix 1|ranks 2|spares 0|separation 1|array a 1|begin|print a|end|schedule|stop|",
+        written: "join 0 1 start|send 0 1 join 1 start|deliver 0 1 join 1 start|join 1 1 start|send 1 0 join 1 start|deliver 1 0 join 1 start|send 0 1 jest 1 0 start,start|deliver 0 1 jest 1 0 start,start|send 1 0 jest 1 1 start,start|repaired 1 1 2 full : 0=0 1=1|init 1 1 initial 1 1 2 full|print 1 1 a : 0|join 1 2 final|send 1 0 join 2 final|deliver 1 0 jest 1 1 start,start|deliver 1 0 join 2 final|repaired 0 1 2 full : 0=0 1=1|init 0 1 initial 0 0 2 full|print 0 1 a : 0|join 0 2 final|send 0 1 join 2 final|send 0 1 jest 2 0 final,final|deliver 0 1 join 2 final|deliver 0 1 jest 2 0 final,final|send 1 0 jest 2 1 final,final|ended 1|deliver 1 0 jest 2 1 final,final|ended 0|",
+        code: 0,
+    },
+    Row {
+        shows: "events, and a spare that helps out",
+        words: "run",
+        source: "fenix 1|ranks 2|spares 1|separation 1|array a 2|begin|let a + rank index|print a|end|schedule|step 0|deliver 0 1|rest 1|run 1|stop|",
+        written: "join 0 1 start|join 1 1 start|join 2 1 start|repaired 2 1 2 full : 0=0 1=1|repaired 0 1 2 full : 0=0 1=1|init 0 1 initial 0 0 2 full|print 0 1 a : 0 1|join 0 2 final|repaired 1 1 2 full : 0=0 1=1|init 1 1 initial 1 1 2 full|print 1 1 a : 1 2|join 1 2 final|join 2 2 spare|ended 2|ended 0|ended 1|",
+        code: 0,
+    },
+    Row {
+        shows: "all of it",
+        words: "wire",
+        source: "fenix 1|ranks 2|spares 1|separation 1|array a 2|begin|let a + rank index|print a|end|schedule|step 0|deliver 0 1|rest 1|run 1|stop|",
+        written: "join 0 1 start|send 0 1 join 1 start|send 0 2 join 1 start|deliver 0 1 join 1 start|join 1 1 start|send 1 0 join 1 start|send 1 2 join 1 start|deliver 1 0 join 1 start|deliver 0 2 join 1 start|deliver 1 2 join 1 start|join 2 1 start|send 2 0 join 1 start|send 2 1 join 1 start|deliver 2 0 join 1 start|send 0 1 jest 1 0 start,start,start|send 0 2 jest 1 0 start,start,start|deliver 0 1 jest 1 0 start,start,start|deliver 2 1 join 1 start|send 1 0 jest 1 1 start,start,start|send 1 2 jest 1 1 start,start,start|deliver 0 2 jest 1 0 start,start,start|deliver 1 2 jest 1 1 start,start,start|send 2 0 jest 1 2 start,start,start|send 2 1 jest 1 2 start,start,start|repaired 2 1 2 full : 0=0 1=1|deliver 1 0 jest 1 1 start,start,start|deliver 2 0 jest 1 2 start,start,start|repaired 0 1 2 full : 0=0 1=1|init 0 1 initial 0 0 2 full|print 0 1 a : 0 1|join 0 2 final|send 0 1 join 2 final|send 0 2 join 2 final|deliver 0 1 join 2 final|deliver 2 1 jest 1 2 start,start,start|repaired 1 1 2 full : 0=0 1=1|init 1 1 initial 1 1 2 full|print 1 1 a : 1 2|join 1 2 final|send 1 0 join 2 final|send 1 2 join 2 final|deliver 0 2 join 2 final|deliver 1 2 join 2 final|join 2 2 spare|send 2 0 join 2 spare|send 2 1 join 2 spare|deliver 1 0 join 2 final|deliver 2 0 join 2 spare|send 0 1 jest 2 0 final,final,spare|send 0 2 jest 2 0 final,final,spare|deliver 0 1 jest 2 0 final,final,spare|deliver 2 1 join 2 spare|send 1 0 jest 2 1 final,final,spare|send 1 2 jest 2 1 final,final,spare|deliver 0 2 jest 2 0 final,final,spare|deliver 1 2 jest 2 1 final,final,spare|send 2 0 jest 2 2 final,final,spare|send 2 1 jest 2 2 final,final,spare|ended 2|deliver 1 0 jest 2 1 final,final,spare|deliver 2 0 jest 2 2 final,final,spare|ended 0|deliver 2 1 jest 2 2 final,final,spare|ended 1|",
+        code: 0,
+    },
+    Row {
+        shows: "a barrier of two ranks",
+        words: "run",
         source: "fenix 1|ranks 2|spares 0|separation 1|begin|barrier|end|schedule|stop|",
-        written: "fenix: bad job: NotBuilt at 2:1|",
+        written: "fenix: bad job: NotBuilt at 6:1|",
         code: 3,
     },
     Row {
@@ -78,17 +106,17 @@ const RUN_ROWS: [Row; 11] = [
         code: 3,
     },
     Row {
-        shows: "an event",
+        shows: "a kill",
         words: "run",
-        source: "fenix 1|ranks 1|spares 0|separation 1|counter c|begin|print c|end|schedule|step 0|stop|",
-        written: "fenix: bad job: NotBuilt at 10:1|",
+        source: "fenix 1|ranks 2|spares 0|separation 1|counter c|begin|print c|end|schedule|step 0|kill 1|stop|",
+        written: "fenix: bad job: NotBuilt at 11:1|",
         code: 3,
     },
     Row {
-        shows: "a spare",
-        words: "run",
-        source: "fenix 1|ranks 1|spares 1|separation 1|begin|barrier|end|schedule|stop|",
-        written: "fenix: bad job: NotBuilt at 3:1|",
+        shows: "a notice",
+        words: "wire",
+        source: "fenix 1|ranks 2|spares 0|separation 1|counter c|begin|print c|end|schedule|notice 0 1|stop|",
+        written: "fenix: bad job: NotBuilt at 10:1|",
         code: 3,
     },
 ];
