@@ -2,6 +2,7 @@
 use Rattle.std.proofs.Common.{◌≡◌, ◌≤◌, ◌<◌, ℕ, zero, suc, ◌+◌, Bool, true, ◌&&◌, List, [], ◌∷◌, map, length, get_or, refl, sym, subst, arith}
 use Rattle.std.specs.Prelude.{ℤ, pos, negsuc, All}
 use Rattle.std.proofs.lemmas.Bool.{and_parts}
+use Rattle.std.proofs.lemmas.Bool.Decides.{nat_tests}
 use Rattle.std.proofs.lemmas.List.Elements.{All-nil, All-cons}
 use Rattle.fx_script.specs.declared.job.Event.{Event}
 use Rattle.fx_script.specs.declared.job.EventKind.{EventKind}
@@ -10,7 +11,8 @@ use Rattle.fx_check.specs.Acceptance.{event_lines}
 use Rattle.fx_check.specs.Parts.{KeepRules}
 use Rattle.fx_check.specs.Rules.{is_process, is_event_in_range}
 use Rattle.fx_sched.specs.declared.moment.Moment.{Moment}
-use Rattle.fx_sched.specs.Moments.{event_of, kind_of}
+use Rattle.fx_sched.specs.declared.moment.Moment.TheVariants as moment
+use Rattle.fx_sched.specs.Moments.{IsAmong, event_of, kind_of}
 
 wider : (procs : ℕ) (n : ℤ) → procs ≤ 16 → is_process procs n ≡ true → is_process 16 n ≡ true
 wider procs (pos n) few is = grind (arith, few, is)
@@ -40,12 +42,24 @@ same_first x y xs ys e = cc
 same_rest : {X : Type 0} (x y : X) (xs ys : List X) → (x ∷ xs) ≡ (y ∷ ys) → xs ≡ ys
 same_rest x y xs ys e = cc
 
+is_below : (procs n : ℕ) → is_process procs (pos n) ≡ true → n < procs
+is_below procs n is = grind (arith, nat_tests, is)
+
+-- a moment whose event has its numbers in range
+among : (procs : ℕ) (m : Moment) → is_event_in_range procs (event_of m) ≡ true → IsAmong procs m
+among procs (moment.Step p) is = is_below procs p.0 is
+among procs (moment.Rest p) is = is_below procs p.0 is
+among procs (moment.Deliver p q) is = let parts = and_parts (is_process procs (pos p.0)) (is_process procs (pos q.0)) is in (is_below procs p.0 parts.0, is_below procs q.0 parts.1)
+among procs (moment.Kill p) is = is_below procs p.0 is
+among procs (moment.Notice p q) is = let parts = and_parts (is_process procs (pos p.0)) (is_process procs (pos q.0)) is in (is_below procs p.0 parts.0, is_below procs q.0 parts.1)
+among procs (moment.Run rounds) is = tt
+
 -- the processes of moments that stand for such events are among so many
 pub all_among : (procs before : ℕ) (moments : List Moment) (events : List Event) → map event_of moments ≡ map kind_of events → KeepRules (event_lines procs before events)
-    → All (λ m. is_event_in_range procs (event_of m) ≡ true) moments
-all_among procs before [] events same keep = All-nil (λ m. is_event_in_range procs (event_of m) ≡ true)
+    → All (IsAmong procs) moments
+all_among procs before [] events same keep = All-nil (IsAmong procs)
 all_among procs before (m ∷ ms) [] same keep = absurd cc
 all_among procs before (m ∷ ms) (e ∷ es) same keep =
-    All-cons (λ m. is_event_in_range procs (event_of m) ≡ true) m ms
-    (subst (λ (k : EventKind). is_event_in_range procs k ≡ true) (sym (same_first (event_of m) e.kind (map event_of ms) (map kind_of es) same)) keep.0.in_range)
+    All-cons (IsAmong procs) m ms
+    (among procs m (subst (λ (k : EventKind). is_event_in_range procs k ≡ true) (sym (same_first (event_of m) e.kind (map event_of ms) (map kind_of es) same)) keep.0.in_range))
     (all_among procs (before + 1) ms es (same_rest (event_of m) e.kind (map event_of ms) (map kind_of es) same) keep.1)

@@ -1,5 +1,5 @@
 -- What happens in a schedule, by processes and rounds.
-use Rattle.std.specs.Prelude.{◌≡◌, pos, List, map, refl}
+use Rattle.std.specs.Prelude.{◌≡◌, ◌<◌, ℕ, pos, List, map, refl}
 use Rattle.fx_script.specs.declared.job.Event.{Event}
 use Rattle.fx_script.specs.declared.job.EventKind.{EventKind}
 use Rattle.fx_script.specs.declared.job.EventKind.TheVariants as event
@@ -23,6 +23,15 @@ kind_of e = e.kind
 -- moments stand for the events of a job, one for one and in order
 abbrev pub AreMoments : Job → List Moment → Type 0
 AreMoments job moments = map event_of moments ≡ map kind_of job.events
+
+-- the processes of a moment are among so many
+abbrev pub IsAmong : ℕ → Moment → Type 0
+IsAmong procs (moment.Step p) = p.0 < procs
+IsAmong procs (moment.Rest p) = p.0 < procs
+IsAmong procs (moment.Deliver p q) = (p.0 < procs) × (q.0 < procs)
+IsAmong procs (moment.Kill p) = p.0 < procs
+IsAmong procs (moment.Notice p q) = (p.0 < procs) × (q.0 < procs)
+IsAmong procs (moment.Run rounds) = Unit {0}
 
 -- the front of the link from 3 to 0
 a_delivery : event_of (moment.Deliver (record { 0 = 3 }) (record { 0 = 0 })) ≡ event.Deliver (pos 3) (pos 0)

@@ -1,6 +1,6 @@
 ghost use Rattle.std.specs.Prelude.{◌≡◌, pos, All, IfOk, true};
 ghost use Rattle.fx_check.specs.Rules.{is_event_in_range, is_process, procs_of};
-ghost use Rattle.fx_sched.specs.Moments.{AreMoments, event_of};
+ghost use Rattle.fx_sched.specs.Moments.{AreMoments, IsAmong, event_of};
 
 use crate::moment::{Moment, Moments};
 use fx_base::{NoMemory, Proc};
@@ -34,7 +34,7 @@ fn moment_of(kind: EventKind) -> Moment
 /// The events of a job, one for one and in order. Each process in them is one of the job's.
 pub fn moments(alloc: Global, job: &Accepted) -> Result<Moments, NoMemory>
     ensures exact { IfOk result (λ moments. AreMoments job.now moments) }
-    ensures among { IfOk result (λ moments. All (λ m. is_event_in_range (procs_of job.now) (event_of m) ≡ true) moments) }
+    ensures among { IfOk result (All (IsAmong (procs_of job.now))) }
 {
     let mut moments = Moments::new(alloc);
     for event in job.job().events.as_slice() {

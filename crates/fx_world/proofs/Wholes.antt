@@ -28,7 +28,7 @@ module _ (a b : Standings) (shown : Shown) (i j : SinkState) (f : Job → World 
   whole_unfinished over goes tells is = record {
     leads = λ job w start plain is_it told_all.
         let now = goes.leads job w start plain is_it told_all in
-        (now.1, sym (tells job (f job w) now.0) ∙ is);
+        (now.0, now.1, sym (tells job (f job w) now.0) ∙ is);
     count_never_falls = goes.count_never_falls;
     failed_only_if_count_rose = λ e. absurd cc;
   }

@@ -1,6 +1,6 @@
 -- What a call does to a world and to what was told of it, by what happens to the world that it is defined to be.
 use Rattle.std.specs.Prelude.{◌≡◌, ◌≤◌, ◌==◌, ℕ, true, false, if◌then◌else◌, List, map, Option, Result, Ok, Err}
-use Rattle.fx_check.specs.Rules.{is_event_in_range, procs_of}
+use Rattle.fx_check.specs.Rules.{procs_of}
 use Rattle.fx_fleet.specs.Rounds as rounds
 use Rattle.fx_fleet.specs.Rounds.{in_rising_order, rests, receives_all, fair_turn, fair_round, fair_rounds, happens, all_happen, all_over, tail}
 use Rattle.fx_fleet.specs.Runs.{AsksNothing, job_setup, moment_of, rest_bound_of}
@@ -53,29 +53,26 @@ abbrev pub Leaves : (A : Type 0) → Job → Standings → Shown → (start now 
 Leaves A job new shown start now w (Ok answer) = IsWorldOf job new w × Tells shown start now w.items
 Leaves A job new shown start now w (Err end) = TellsFront shown start now w.items
 
--- It does to each world of a job what this function does, and tells the items of it, where all items so far were told since the start.
--- So far this is known of jobs that ask nothing.
-pub record Goes (A : Type 0) (old new : Standings) (shown : Shown) (sink sink' : SinkState) (happens : Job → World → World) (answer : Result A RunEnd) : Type 0 where
+-- It has this effect on each world of a job, and tells the items of it, where all items so far were told since the start. With a world
+-- that has no items yet, and what the sink had got at the call as the start, this says what the call itself wrote, in the midst of a run
+-- too. So far this is known of jobs that ask nothing.
+pub record Goes (A : Type 0) (old new : Standings) (shown : Shown) (sink sink' : SinkState) (effect : Job → World → World) (answer : Result A RunEnd) : Type 0 where
   pub leads : (job : Job) (w : World) (start : Told) → AsksNothing job → IsWorldOf job old w → Tells shown start (told old sink) w.items
-      → Leaves A job new shown start (told new sink') (happens job w) answer
+      → Leaves A job new shown start (told new sink') (effect job w) answer
   pub count_never_falls : sink.faults ≤ sink'.faults
   pub failed_only_if_count_rose : answer ≡ Err end.WriteFault → Rose sink.faults sink'.faults
   pub never_unfinished : answer ≡ Err end.Unfinished → ⊥
 
--- want of memory is for ever
-pub record IsForEver (A : Type 0) (old new : Standings) (answer : Result A RunEnd) : Type 0 where
+-- want of memory is for ever: a later call does nothing, and answers so too
+pub record IsForEver (A : Type 0) (old new : Standings) (sink sink' : SinkState) (answer : Result A RunEnd) : Type 0 where
   pub begins : answer ≡ Err end.NoMemory → new.failed ≡ true
-  pub stays : old.failed ≡ true → answer ≡ Err end.NoMemory
+  pub stays : old.failed ≡ true → (answer ≡ Err end.NoMemory) × (new ≡ old) × (sink' ≡ sink)
 
 -- ---- moments
 
 -- the moment that the schedule of a job means
 abbrev pub meant : Moment → rounds.Moment
 meant m = moment_of (event_of m)
-
--- its processes are among so many
-abbrev pub IsAmong : ℕ → Moment → Type 0
-IsAmong procs m = is_event_in_range procs (event_of m) ≡ true
 
 -- ---- what happens to the world of a job
 
@@ -144,12 +141,12 @@ in_run moments bound job w = in_tail bound job (at_all moments job w)
 -- enough, and all items are told; or a front of their text was written
 abbrev pub RunLeaves : Job → Standings → Shown → (start now : Told) → World → Result Counts RunEnd → Type 0
 RunLeaves job new shown start now w (Ok counts) = IsWorldOf job new w × Tells shown start now w.items × (all_over (job_setup job) w ≡ true) × (counts ≡ now.counts)
-RunLeaves job new shown start now w (Err end.Unfinished) = Tells shown start now w.items × (all_over (job_setup job) w ≡ false)
+RunLeaves job new shown start now w (Err end.Unfinished) = IsWorldOf job new w × Tells shown start now w.items × (all_over (job_setup job) w ≡ false)
 RunLeaves job new shown start now w (Err end.WriteFault) = TellsFront shown start now w.items
 RunLeaves job new shown start now w (Err end.NoMemory) = TellsFront shown start now w.items
 
-pub record GoesWhole (old new : Standings) (shown : Shown) (sink sink' : SinkState) (happens : Job → World → World) (answer : Result Counts RunEnd) : Type 0 where
+pub record GoesWhole (old new : Standings) (shown : Shown) (sink sink' : SinkState) (effect : Job → World → World) (answer : Result Counts RunEnd) : Type 0 where
   pub leads : (job : Job) (w : World) (start : Told) → AsksNothing job → IsWorldOf job old w → Tells shown start (told old sink) w.items
-      → RunLeaves job new shown start (told new sink') (happens job w) answer
+      → RunLeaves job new shown start (told new sink') (effect job w) answer
   pub count_never_falls : sink.faults ≤ sink'.faults
   pub failed_only_if_count_rose : answer ≡ Err end.WriteFault → Rose sink.faults sink'.faults

@@ -25,7 +25,7 @@ pub record Standings : Type 0 where
 abbrev pub post_of : Standings → ℕ → Option Standing
 post_of c p = slice_index_or c.posts p None
 
--- a process that stands is one of so many
+-- a process that stands was made to be one of so many
 abbrev pub IsOneOf : ℕ → Option Standing → Type 0
 IsOneOf procs None = Unit {0}
 IsOneOf procs (Some c) = processes c ≡ procs

@@ -18,7 +18,7 @@ abbrev pub text_of : List Item → List ℕ
 text_of [] = []
 text_of (item ∷ items) = ended_line item ++ text_of items
 
--- the process that an item happens to, the first field of its line
+-- the process that an item's line names first
 abbrev pub process_of : Item → Proc
 process_of (item.Kill p) = p
 process_of (item.Join p e kind) = p
@@ -50,7 +50,7 @@ process_of (item.Send p q message) = p
 process_of (item.Deliver p q message) = p
 process_of (item.Told p q) = p
 
--- the journal, all items, those of the journal that happen to one process, or none
+-- the journal, all items, those of the journal whose lines name a process first, or none
 abbrev pub is_shown : Shown → Item → Bool
 is_shown shown.Journal i = is_of_journal i
 is_shown shown.Wire i = true

@@ -4,7 +4,7 @@ use fx_io::PutEnd;
 /// Why a run was cut short.
 #[derive(Clone, Copy, Debug, PartialEq, Eq)]
 pub enum RunEnd {
-    /// The sink failed, and its count of faults rose.
+    /// The sink failed, and its count of faults rose, or stands at its last value.
     WriteFault,
     /// The rounds of the tail were over, and a living process hadn't ended.
     Unfinished,

@@ -12,7 +12,7 @@ pub enum Shown {
     Journal,
     /// All.
     Wire,
-    /// Those of the journal that happen to the process.
+    /// Those of the journal whose lines name the process first: what happens to it.
     Only(Proc),
     /// None.
     Nothing,
@@ -39,7 +39,7 @@ fn is_of_journal(item: &Item) -> bool
     )
 }
 
-// The process that an item happens to.
+// The process that an item's line names first.
 fn process_of(item: &Item) -> Proc
     ensures { result ≡ process_of item.now }
 {

@@ -1,4 +1,4 @@
-ghost use Rattle.std.specs.Prelude.{◌≡◌, ◌<◌, ◌≤◌, ◌∷◌, ◌++◌, ◌&&◌, ◌||◌, [], ◌↔◌, All, Bool, Err, IfOk, IsTrue, OnOk, map, not, true};
+ghost use Rattle.std.specs.Prelude.{◌≡◌, ◌<◌, ◌≤◌, ◌∷◌, ◌++◌, ◌&&◌, ◌||◌, [], ◌↔◌, All, Bool, Err, IfOk, IsTrue, OnOk, false, map, not, true};
 ghost use Rattle.fx_check.specs.Rules.{procs_of};
 ghost use Rattle.fx_fleet.specs.Rounds.{all_over, is_quiet};
 ghost use Rattle.fx_fleet.specs.Runs.{AsksNothing, job_setup, rest_bound};
@@ -7,9 +7,10 @@ ghost use Rattle.fx_fleet.specs.World.{first_world, may_learn, up};
 ghost use Rattle.fx_io.specs.Writing.{Puts};
 ghost use Rattle.fx_link.specs.LinkTable.{sent, taken};
 ghost use Rattle.fx_machine.specs.Nodes.{Node as NodeValue, has_ended};
+ghost use Rattle.fx_sched.specs.Moments.{IsAmong};
 ghost use Rattle.fx_script.specs.declared.job.Job.{Job};
 ghost use Rattle.fx_world.specs.Counting.{counted, no_counts};
-ghost use Rattle.fx_world.specs.Goes.{Goes, GoesWhole, IsAmong, IsForEver, at_all, at_moment, delivering, draining, in_round, in_rounds, in_run, in_tail, in_turn, killing, learning, noticing, receiving, resting, stepping};
+ghost use Rattle.fx_world.specs.Goes.{Goes, GoesWhole, IsForEver, at_all, at_moment, delivering, draining, in_round, in_rounds, in_run, in_tail, in_turn, killing, learning, noticing, receiving, resting, stepping};
 ghost use Rattle.fx_world.specs.Sends.{carried, links_behind, sent_all, sent_item};
 ghost use Rattle.fx_world.specs.Standings.{IsOfSame, IsPost, IsWorldOf, post_of};
 ghost use Rattle.fx_world.specs.Texts.{shown_text};
@@ -33,7 +34,9 @@ use std::marker::Model;
 /// All processes of a job, what is under way between them, and the counts of all that was told. Each process that is handed in,
 /// also in a moment, is below the number of processes of the job.
 ///
-/// What is promised of a call holds of jobs whose bodies ask nothing of others; each call on any job returns.
+/// What is promised of a call holds of jobs whose bodies ask nothing of others; each call on any job returns. After
+/// `WriteFault` nothing more is known of the world, and each later call still returns one of its answers. After `NoMemory`
+/// every later call answers that, and does nothing.
 #[derive(Debug, Drop)]
 pub struct World {
     alloc: Global,
@@ -78,6 +81,7 @@ impl World {
         ensures begins { IfOk result (λ world. IsWorldOf job.now world (first_world (job_setup job.now))) }
         ensures of_all { IfOk result (λ world. world.procs ≡ procs_of job.now) }
         ensures counts { IfOk result (λ world. world.counts ≡ no_counts) }
+        ensures well { IfOk result (λ world. world.failed ≡ false) }
     {
         let procs = job.procs();
         let mut posts = Vec::new(alloc);
@@ -104,7 +108,7 @@ impl World {
     ) -> Result<(), RunEnd>
         requires { IsAmong self.old.procs moment }
         ensures goes { Goes _ self.old self.new shown (K.state sink.old) (K.state sink.new) (at_moment moment) result }
-        ensures for_ever { IsForEver _ self.old self.new result }
+        ensures for_ever { IsForEver _ self.old self.new (K.state sink.old) (K.state sink.new) result }
         ensures of_all { IsOfSame self.old self.new }
     {
         if self.failed {
@@ -115,11 +119,11 @@ impl World {
         end
     }
 
-    /// One fair round: each process that is up receives all that is under way to it, is told of each loss, and then takes
-    /// steps until it is quiet.
+    /// One fair round: in rising number each process that is up receives all that is under way to it, is told of each loss,
+    /// and then takes steps until it is quiet, at most (2P + 2) * (W + 2) * (P + 8) of them with P processes and the work W.
     pub fn round<K: Sink>(&mut self, shown: Shown, sink: &mut K) -> Result<(), RunEnd>
         ensures goes { Goes _ self.old self.new shown (K.state sink.old) (K.state sink.new) in_round result }
-        ensures for_ever { IsForEver _ self.old self.new result }
+        ensures for_ever { IsForEver _ self.old self.new (K.state sink.old) (K.state sink.new) result }
         ensures of_all { IsOfSame self.old self.new }
     {
         if self.failed {
@@ -131,6 +135,8 @@ impl World {
     }
 
     /// The moments of a schedule, one after another, and then fair rounds until each living process has ended, at most `bound`.
+    /// The counts are those of all that happened since the world was made. `Unfinished` says that so many rounds weren't
+    /// enough; all lines so far were written then.
     pub fn run_all<K: Sink>(
         &mut self,
         moments: &Moments,
@@ -140,13 +146,14 @@ impl World {
     ) -> Result<Counts, RunEnd>
         requires { All (IsAmong self.old.procs) moments.now }
         ensures goes { GoesWhole self.old self.new shown (K.state sink.old) (K.state sink.new) (in_run moments.now bound) result }
-        ensures for_ever { IsForEver _ self.old self.new result }
+        ensures of_all { IsOfSame self.old self.new }
+        ensures for_ever { IsForEver _ self.old self.new (K.state sink.old) (K.state sink.new) result }
     {
         if self.failed {
             return Err(RunEnd::NoMemory);
         }
         self.apply_all(moments.as_slice(), shown, sink)?;
-        self.go_on(bound, shown, sink)?;
+        self.run_tail(bound, shown, sink)?;
         if !self.is_over() {
             return Err(RunEnd::Unfinished);
         }
@@ -171,7 +178,7 @@ impl World {
     }
 
     // Fair rounds until each living process has ended, at most so many.
-    fn go_on<K: Sink>(&mut self, bound: u64, shown: Shown, sink: &mut K) -> Result<(), RunEnd>
+    fn run_tail<K: Sink>(&mut self, bound: u64, shown: Shown, sink: &mut K) -> Result<(), RunEnd>
         ensures goes { Goes _ self.old self.new shown (K.state sink.old) (K.state sink.new) (in_tail bound) result }
         ensures begins { result ≡ Err RunEnd.NoMemory → self.new.failed ≡ true }
         ensures of_all { IsOfSame self.old self.new }

@@ -26,11 +26,11 @@ returns-in_err-apply_all-clause-goes g c =
 pub returns-then-not-is_over-clause-goes : goal.returns-then-not-is_over-clause-goes
 returns-then-not-is_over-clause-goes g c =
     whole_unfinished _ _ c.args.shown _ _ (in_run c.args.moments.now c.args.bound) c.is_over.result
-    (goes_on _ _ _ _ _ _ c.args.shown _ _ _ (at_all c.args.moments.now) (in_tail c.args.bound) (Ok tt) (rw c.as_slice.ensures at c.in_ok-apply_all.ensures.goes) c.in_ok-go_on.ensures.goes)
+    (goes_on _ _ _ _ _ _ c.args.shown _ _ _ (at_all c.args.moments.now) (in_tail c.args.bound) (Ok tt) (rw c.as_slice.ensures at c.in_ok-apply_all.ensures.goes) c.in_ok-run_tail.ensures.goes)
     c.is_over.ensures c.if-not-is_over.true
 
 pub returns-clause-goes : goal.returns-clause-goes
 returns-clause-goes g c =
     whole_done _ _ c.args.shown _ _ (in_run c.args.moments.now c.args.bound) c.is_over.result c.counts.result
-    (goes_on _ _ _ _ _ _ c.args.shown _ _ _ (at_all c.args.moments.now) (in_tail c.args.bound) (Ok tt) (rw c.as_slice.ensures at c.in_ok-apply_all.ensures.goes) c.in_ok-go_on.ensures.goes)
+    (goes_on _ _ _ _ _ _ c.args.shown _ _ _ (at_all c.args.moments.now) (in_tail c.args.bound) (Ok tt) (rw c.as_slice.ensures at c.in_ok-apply_all.ensures.goes) c.in_ok-run_tail.ensures.goes)
     c.is_over.ensures c.if-not-is_over.false (c.counts.ensures ∙ ap (λ (s : Standings). s.counts) c.self-2.view_is)

@@ -3,7 +3,7 @@ use Rattle.std.proofs.lemmas.Result.{err_from_is_err_and}
 use Rattle.fx_world.specs.Goes.{in_round, in_tail}
 use Rattle.fx_world.proofs.Going.{cuts_way, ends_way, goes_way}
 use Rattle.fx_world.proofs.Loops.{no_tail, round_of_tail, tail_on, tail_over}
-use Rattle.fx_world.proofs.world.World.go_on.Goals as goal
+use Rattle.fx_world.proofs.world.World.run_tail.Goals as goal
 
 pub returns-then-is_over-clause-goes : goal.returns-then-is_over-clause-goes
 returns-then-is_over-clause-goes g c =

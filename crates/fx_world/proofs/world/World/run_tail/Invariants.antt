@@ -3,7 +3,7 @@ use Rattle.std.proofs.Common.{◌-◌}
 use Rattle.fx_world.specs.Goes.{in_tail}
 use Rattle.fx_world.specs.Standings.{IsOfSame}
 use Rattle.fx_world.proofs.Going.{IsOnWay}
-use Rattle.fx_world.proofs.world.World.go_on.Given as goal
+use Rattle.fx_world.proofs.world.World.run_tail.Given as goal
 
 abbrev pub invariant-loop : goal.invariant-loop
 invariant-loop g l = record {
