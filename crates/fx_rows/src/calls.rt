@@ -57,10 +57,10 @@ const RUN_ROWS: [Row; 11] = [
         code: 3,
     },
     Row {
-        shows: "two ranks",
+        shows: "a barrier of two ranks",
         words: "run",
         source: "fenix 1|ranks 2|spares 0|separation 1|begin|barrier|end|schedule|stop|",
-        written: "fenix: bad job: NotBuilt at 2:1|",
+        written: "fenix: bad job: NotBuilt at 6:1|",
         code: 3,
     },
     Row {
@@ -78,18 +78,18 @@ const RUN_ROWS: [Row; 11] = [
         code: 3,
     },
     Row {
-        shows: "an event",
+        shows: "a kill",
         words: "run",
-        source: "fenix 1|ranks 1|spares 0|separation 1|counter c|begin|print c|end|schedule|step 0|stop|",
+        source: "fenix 1|ranks 1|spares 0|separation 1|counter c|begin|print c|end|schedule|kill 0|stop|",
         written: "fenix: bad job: NotBuilt at 10:1|",
         code: 3,
     },
     Row {
-        shows: "a spare",
+        shows: "a spare, and events",
         words: "run",
-        source: "fenix 1|ranks 1|spares 1|separation 1|begin|barrier|end|schedule|stop|",
-        written: "fenix: bad job: NotBuilt at 3:1|",
-        code: 3,
+        source: "fenix 1|ranks 1|spares 1|separation 1|begin|end|schedule|step 0|deliver 0 1|rest 1|run 2|stop|",
+        written: "join 0 1 start|join 1 1 start|repaired 1 1 1 full : 0=0|repaired 0 1 1 full : 0=0|init 0 1 initial 0 0 1 full|join 0 2 final|join 1 2 spare|ended 1|ended 0|",
+        code: 0,
     },
 ];
 
