@@ -1,5 +1,5 @@
-//! Runs or checks a job: `fenix run` reads it from standard input and writes its journal to standard output, and
-//! `fenix check` writes its canonical text.
+//! Runs or checks a job: `fenix run` reads it from standard input and writes its journal to standard output, `fenix wire`
+//! writes all that happens in its run, and `fenix check` its canonical text.
 #![tactic(auto)]
 
 use fx_cli::code;

@@ -55,10 +55,10 @@ pub fn fenix<S: Source, K: Sink>(
     ensures jobs_are_run { (job : Job) → IsGiven Mode.Run (map string_bytes words.now) (S.state source.old) job → first_unbuilt job ≡ None → IsDoneOrUnfinished (IsRun job (K.state sink.old) (K.state sink.new)) (IsUnfinishedRun job (journal_of job) (K.state sink.old) (K.state sink.new)) result }
     // The same with the word wire: exactly the text of all that happens was written.
     ensures jobs_are_wired { (job : Job) → IsGiven Mode.Wire (map string_bytes words.now) (S.state source.old) job → first_unbuilt job ≡ None → IsDoneOrUnfinished (IsWired job (K.state sink.old) (K.state sink.new)) (IsUnfinishedRun job (wire_of job) (K.state sink.old) (K.state sink.new)) result }
-    // With either word the call is unfinished exactly where the tail isn't enough, unless it is cut short.
-    ensures unfinished_where_due { (job : Job) (asked : Mode) → AsksRun (Some asked) → IsGiven asked (map string_bytes words.now) (S.state source.old) job → first_unbuilt job ≡ None → IsUnlessCut (end_of job) result }
     // The same with the word check: exactly the canonical text of the job was written.
     ensures accepted_jobs_are_printed { (job : Job) → IsGiven Mode.Check (map string_bytes words.now) (S.state source.old) job → IsDoneUnlessCut (IsCheck job (K.state sink.old) (K.state sink.new)) result }
+    // With the words run and wire the call is unfinished exactly where the tail isn't enough, unless it is cut short.
+    ensures unfinished_where_due { (job : Job) (asked : Mode) → AsksRun (Some asked) → IsGiven asked (map string_bytes words.now) (S.state source.old) job → first_unbuilt job ≡ None → IsUnlessCut (end_of job) result }
     ensures read_fault_only_if_count_rose { result ≡ Status.ReadFault → Rose (S.state source.old).faults (S.state source.new).faults }
     ensures write_fault_only_if_count_rose { result ≡ Status.WriteFault → Rose (K.state sink.old).faults (K.state sink.new).faults }
     ensures source_count_never_falls { (S.state source.old).faults ≤ (S.state source.new).faults }
