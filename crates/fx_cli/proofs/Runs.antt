@@ -69,7 +69,7 @@ last_of job = whole (job_setup job) (rest_bound_of job) (bound_of job) (moments_
 run_adds : (job : Job) (shown : Shown) (new : Standings) (start now : Told) (answer : Result Counts RunEnd) → RunLeaves job new shown start now (last_of job) answer →
     RunAdds job start.written now.written (shown_text shown (wire_of job)) (dropped answer)
 run_adds job shown new start now (Ok counts) leaves = (rw leaves.2 refl, leaves.1.text)
-run_adds job shown new start now (Err run_end.Unfinished) leaves = (rw leaves.1 refl, leaves.0.text)
+run_adds job shown new start now (Err run_end.Unfinished) leaves = (rw leaves.2 refl, leaves.1.text)
 run_adds job shown new start now (Err run_end.WriteFault) leaves = leaves
 run_adds job shown new start now (Err run_end.NoMemory) leaves = leaves
 

@@ -1,10 +1,8 @@
-use Rattle.std.proofs.Common.{◌≡◌, ℕ, Ok, Err, sym, subst}
-use Rattle.std.specs.Prelude.{All, true}
+use Rattle.std.proofs.Common.{ℕ, Ok, Err, sym, subst}
+use Rattle.std.specs.Prelude.{All}
 use Rattle.std.proofs.lemmas.Result.{err_from_is_err_and}
-use Rattle.fx_check.specs.Rules.{is_event_in_range}
 use Rattle.fx_script.proofs.HasTexts.{written_if_has_text}
-use Rattle.fx_sched.specs.declared.moment.Moment.{Moment}
-use Rattle.fx_sched.specs.Moments.{event_of}
+use Rattle.fx_sched.specs.Moments.{IsAmong}
 use Rattle.fx_cli.proofs.Plain.{asks_nothing}
 use Rattle.fx_cli.proofs.Runs.{run_writes, unwritten}
 use Rattle.fx_cli.proofs.run.write_run.Goals as goal
@@ -21,7 +19,7 @@ returns-in_err-moments g c =
 
 pub run_all-requires : goal.run_all-requires
 run_all-requires g c =
-    subst (λ (procs : ℕ). All (λ (m : Moment). is_event_in_range procs (event_of m) ≡ true) c.in_ok-moments.moments) (sym c.in_ok-world.ensures.of_all) c.in_ok-moments.ensures.among
+    subst (λ (procs : ℕ). All (IsAmong procs) c.in_ok-moments.moments) (sym c.in_ok-world.ensures.of_all) c.in_ok-moments.ensures.among
 
 pub returns-in_err-run_all : goal.returns-in_err-run_all
 returns-in_err-run_all g c =
