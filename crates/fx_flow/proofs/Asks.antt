@@ -1,8 +1,6 @@
 -- What outward instructions ask and take is what their statements do.
-use Rattle.std.proofs.Common.{◌≡◌, ◌≤◌, ℕ, suc, ◌+◌, Bool, true, false, not, ◌&&◌, ◌||◌, List, [], ◌∷◌, map, get_or, Option, Some, None, refl, ap, sym, subst, ◌∙◌, arith, Result, Ok, Err, IfOk}
-use Rattle.std.specs.Prelude.{ℤ, pos, negsuc, nat_le, if◌then◌else◌}
-use Rattle.std.specs.FinMap.{from_sorted}
-use Rattle.std.specs.Ordering.{nat_cmp}
+use Rattle.std.proofs.Common.{◌≡◌, ◌≤◌, ℕ, ◌+◌, true, ◌&&◌, List, [], ◌∷◌, map, get_or, Option, Some, None, refl, sym, arith, Result, Ok, Err, IfOk}
+use Rattle.std.specs.Prelude.{ℤ, pos, negsuc, nat_le}
 use Rattle.std.proofs.lemmas.Bool.{and_parts}
 use Rattle.std.specs.List.{list_all}
 use Rattle.fx_base.specs.declared.memory.NoMemory.{NoMemory}
@@ -18,21 +16,20 @@ use Rattle.fx_subset.specs.Fault.{fault_of_blocks, fault_of_pairs}
 use Rattle.fx_subset.specs.Indices.{blocks_of, union_of}
 use Rattle.fx_subset.proofs.Cover.{contains-union_of}
 use Rattle.fx_subset.specs.declared.fault.SubsetFault.{SubsetFault}
-use Rattle.fx_check.specs.Facts.{Facts, is_array, is_one_of_eight, has_group, has_member, first_attached}
+use Rattle.fx_check.specs.Facts.{Facts, is_one_of_eight, has_group, has_member, first_attached}
 use Rattle.fx_check.specs.Rules.{count_of, is_between, fits_32, picked_fits_32, pair_fits_32, pair_of, lies_in, is_faultless, subset_fault, length_of_attached, are_of_one_length, expr_groups_fit}
 use Rattle.fx_check.specs.Facts.{array_in}
 use Rattle.fx_walk.specs.State.{counter_slot, array_slot}
 use Rattle.fx_walk.specs.Values.{sight}
-use Rattle.fx_walk.specs.Walk.{group_id, member_id, stamp_at, member_array, is_picked, picked_from, stored}
+use Rattle.fx_walk.specs.Walk.{group_id, member_id, stamp_at, member_array, picked_from}
 use Rattle.fx_value.specs.Terms.{term_of}
 use Rattle.fx_value.proofs.TermLemmas.{term_value-term_of}
-use Rattle.fx_flow.specs.declared.instr.Outward.{Outward}
 use Rattle.fx_flow.specs.declared.instr.Outward.TheVariants as outward
 use Rattle.fx_flow.specs.declared.instr.Selection.{Selection}
 use Rattle.fx_flow.specs.declared.instr.Selection.TheVariants as selection
 use Rattle.fx_flow.specs.Code.{AsksAs}
 use Rattle.fx_flow.specs.Emits.{Selects}
-use Rattle.fx_flow.specs.Outward.{is_selected, selected_from, selected}
+use Rattle.fx_flow.specs.Outward.{selected_from}
 
 -- ---- numbers
 

@@ -1,6 +1,6 @@
 -- In an accepted job each array that is attached to a member is declared, and has a length of 32 bits.
-use Rattle.std.proofs.Common.{◌≡◌, ◌≤◌, ◌<◌, ◌^◌, ℕ, zero, suc, Bool, true, false, ◌&&◌, cond, List, [], ◌∷◌, ◌++◌, map, length, get_or, replicate, Option, Some, None, refl, ap, sym, subst, ◌∙◌, arith, lit<}
-use Rattle.std.specs.Prelude.{ℤ, pos, negsuc, nat_le, if◌then◌else◌, is_some}
+use Rattle.std.proofs.Common.{◌≡◌, ◌≤◌, ◌<◌, ◌^◌, ℕ, zero, suc, Bool, true, false, cond, List, [], ◌∷◌, ◌++◌, map, length, get_or, replicate, Option, Some, None, refl, sym, subst, arith, lit<}
+use Rattle.std.specs.Prelude.{ℤ, pos, negsuc, if◌then◌else◌, is_some}
 use Rattle.std.specs.List.{AllByRecursion, find}
 use Rattle.std.specs.Str.{bytes_eq}
 use Rattle.std.proofs.lemmas.Bool.{and_parts}
@@ -16,8 +16,8 @@ use Rattle.fx_script.specs.Spelling.{chained}
 use Rattle.fx_check.specs.declared.surroundings.Surroundings.{Surroundings}
 use Rattle.fx_check.specs.declared.tables.Attached.{Attached}
 use Rattle.fx_check.specs.Acceptance.{Line, decl_lines, lines_at, stmt_lines_level, stmt_lines, stmts_lines}
-use Rattle.fx_check.specs.Facts.{Facts, facts_of, is_array, array_in, has_group, has_member, attaches, array_of, first_attached, in_other, attached_level, attached_by, attached_in}
-use Rattle.fx_check.specs.Parts.{KeepsByParts, KeepsRules, KeepRules}
+use Rattle.fx_check.specs.Facts.{Facts, facts_of, is_array, array_in, has_group, attaches, array_of, first_attached, attached_level, attached_by, attached_in}
+use Rattle.fx_check.specs.Parts.{KeepsByParts, KeepRules}
 use Rattle.fx_check.specs.Rules.{body_place, inside_when, inside_if, inside_for, is_between, fits_32, length_of_attached, count_of}
 use Rattle.fx_walk.specs.State.{zero_arrays}
 use Rattle.fx_flow.specs.Code.{DeclaresMembers}

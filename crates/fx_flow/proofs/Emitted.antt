@@ -1,5 +1,5 @@
 -- Code that grows does what it did.
-use Rattle.std.proofs.Common.{◌≡◌, ℕ, zero, suc, List, [], ◌∷◌, ◌++◌, append_assoc, Some, None, refl, ap, sym, subst, ◌∙◌, length, drop, get_or, drop-cons, ◌<◌, Result, Ok, Err, IfOk}
+use Rattle.std.proofs.Common.{◌≡◌, ℕ, zero, suc, List, [], ◌∷◌, ◌++◌, append_assoc, Some, refl, ap, sym, subst, ◌∙◌, length, drop, get_or, drop-cons, ◌<◌, Result, Ok, Err, IfOk}
 use Rattle.std.specs.Prelude.{slice_get}
 use Rattle.std.proofs.lemmas.List.{append-nil}
 use Rattle.fx_base.specs.declared.memory.NoMemory.{NoMemory}

@@ -1,8 +1,6 @@
 -- Flat code follows the walk of its statements.
-use Rattle.std.proofs.Common.{◌≡◌, ℕ, zero, suc, ◌+◌, ◌-◌, Bool, true, false, List, [], ◌∷◌, ◌++◌, map, Option, Some, None, refl, ap, sym, subst, ◌∙◌, arith, get_or}
+use Rattle.std.proofs.Common.{◌≡◌, ℕ, zero, suc, ◌+◌, ◌-◌, Bool, true, false, List, [], ◌∷◌, ◌++◌, map, Some, None, refl, ap, sym, subst, ◌∙◌, arith, get_or}
 use Rattle.std.specs.Prelude.{ℤ, pos, if◌then◌else◌, slice_get}
-use Rattle.std.specs.List.{AllByRecursion}
-use Rattle.fx_base.specs.declared.spot.Spot.{Spot}
 use Rattle.fx_script.specs.declared.expr.Expr.{Expr}
 use Rattle.fx_script.specs.declared.job.Stmt.{Stmt}
 use Rattle.fx_script.specs.declared.job.Stmt.TheVariants as stmt
@@ -17,18 +15,16 @@ use Rattle.fx_check.specs.Parts.{KeepsRules, KeepRules}
 use Rattle.fx_check.specs.Rules.{count_of, inside_when, inside_if, inside_for, expr_groups_fit, is_between}
 use Rattle.std.proofs.lemmas.Bool.{and_parts}
 use Rattle.fx_walk.specs.declared.action.View.{View}
-use Rattle.fx_walk.specs.declared.printed.Printed.{Printed}
 use Rattle.fx_walk.specs.State.{State, counter_slot, array_slot, with_counter, with_elements, with_callback, elements_of}
 use Rattle.fx_walk.specs.Values.{sight, value_of, values_from, holds}
-use Rattle.fx_walk.specs.Walk.{Given, Reply, Walk, Ends, Passes, Prints, Asks, Onward, Meaning, looped, turns_of, printed_of, is_same_role, view_after, walk_level, walk, walks, walk_of, ended}
-use Rattle.fx_value.specs.Terms.{term_of, term_value, term_values}
+use Rattle.fx_walk.specs.Walk.{Walk, Passes, Onward, Meaning, looped, turns_of, printed_of, is_same_role, view_after, walk_level, walk, walks, walk_of, ended}
+use Rattle.fx_value.specs.Terms.{term_of, term_value}
 use Rattle.fx_flow.specs.declared.instr.Instr.{Instr}
 use Rattle.fx_flow.specs.declared.instr.Instr.TheVariants as instr
 use Rattle.fx_flow.specs.declared.instr.Variable.TheVariants as variable
 use Rattle.fx_flow.specs.declared.instr.Loop.{Loop}
-use Rattle.fx_flow.specs.declared.instr.Outward.{Outward}
-use Rattle.fx_flow.specs.Code.{Stand, Act, Over, Moves, Waits, goes, tests, ends, values_at, acts_on, acts, takes_on, takes, Follows, start, variable_of, DeclaresMembers, AsksAs, Leads, Nothing, DoesLet, DoesSet, DoesPrint, DoesRegister, DoesWhen, DoesIf, DoesIfAlone, DoesFor, DoesOutward, IsCode}
-use Rattle.fx_flow.specs.Outward.{wanted_by, taken_by, with_counter_at}
+use Rattle.fx_flow.specs.Code.{Stand, Moves, goes, tests, values_at, acts_on, acts, takes_on, Follows, start, variable_of, DeclaresMembers, Leads, Nothing, DoesLet, DoesSet, DoesPrint, DoesRegister, DoesWhen, DoesIf, DoesIfAlone, DoesFor, DoesOutward, IsCode}
+use Rattle.fx_flow.specs.Outward.{taken_by}
 use Rattle.fx_value.proofs.TermLemmas.{term_value-term_of, term_values-term_of}
 
 -- ---- lines

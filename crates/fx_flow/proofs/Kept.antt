@@ -23,7 +23,7 @@ use Rattle.fx_flow.specs.declared.instr.Instr.TheVariants as instr
 use Rattle.fx_flow.specs.declared.instr.Loop.{Loop}
 use Rattle.fx_flow.specs.Code.{Stand, Act, Over, Moves, Waits, tests, ends, acts_on, acts, start}
 use Rattle.fx_flow.specs.Flowing.{Flowing, state_of, DoesRest, IsFlowOf}
-use Rattle.fx_flow.specs.Outward.{array_at, with_array_at, takes_entries}
+use Rattle.fx_flow.specs.Outward.{array_at}
 use Rattle.fx_flow.proofs.Declared.{declares}
 use Rattle.fx_flow.proofs.Following.{begins}
 

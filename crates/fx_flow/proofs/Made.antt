@@ -1,5 +1,5 @@
 -- The code of a job with that of its callbacks.
-use Rattle.std.proofs.Common.{◌≡◌, ◌<◌, ℕ, suc, ◌+◌, List, [], ◌∷◌, ◌++◌, length, take, drop, drop-cons, get_or, true, append_assoc, Some, refl, ap, sym, subst, ◌∙◌, add-one, Result, Ok, Err, IfOk, OnOk}
+use Rattle.std.proofs.Common.{◌≡◌, ◌<◌, ℕ, suc, ◌+◌, List, [], ◌∷◌, ◌++◌, length, take, drop, drop-cons, get_or, true, append_assoc, Some, refl, ap, sym, subst, ◌∙◌, add-one}
 use Rattle.std.specs.Prelude.{slice_get}
 use Rattle.std.specs.List.{find}
 use Rattle.std.specs.Str.{bytes_eq}
@@ -14,7 +14,7 @@ use Rattle.fx_value.proofs.Shapes.{shaped_blank}
 use Rattle.fx_flow.specs.declared.instr.Instr.{Instr}
 use Rattle.fx_flow.specs.declared.instr.Instr.TheVariants as instr
 use Rattle.fx_flow.specs.declared.instr.Routine.{Routine}
-use Rattle.fx_flow.specs.Code.{IsCode, Leads, start}
+use Rattle.fx_flow.specs.Code.{Leads, start}
 use Rattle.fx_flow.specs.Emits.{Emits, Grows}
 use Rattle.fx_flow.specs.Flowing.{AreRoutines, IsFlowOf, IsRoutine, is_routine_of, part_of}
 use Rattle.fx_flow.proofs.Emitted.{get_grown, grown}

@@ -1,5 +1,5 @@
 -- A map of selected elements grows at its end.
-use Rattle.std.proofs.Common.{◌≡◌, ℕ, zero, suc, ◌+◌, ◌<◌, Bool, true, false, ◌&&◌, T, IsTrue, List, [], ◌∷◌, ◌++◌, length, take, get_or, append-nil, refl, ap, sym, subst, ◌∙◌, arith, add-one}
+use Rattle.std.proofs.Common.{◌≡◌, ℕ, ◌+◌, ◌<◌, Bool, true, false, List, [], ◌∷◌, ◌++◌, length, take, get_or, append-nil, refl, ap, sym, ◌∙◌, arith, add-one}
 use Rattle.std.specs.Prelude.{ℤ, pos, if◌then◌else◌}
 use Rattle.std.proofs.Math.ListN.{length-take}
 use Rattle.std.specs.FinMap.{FinMap, is_sorted, put, from_sorted, insert}

@@ -1,7 +1,6 @@
 -- The code of a callback goes straight through its statements, which are lets and prints.
-use Rattle.std.proofs.Common.{◌≡◌, ℕ, suc, ◌+◌, Bool, true, false, not, ◌&&◌, List, [], ◌∷◌, ◌++◌, map, Option, Some, None, refl, ap, sym, subst, ◌∙◌}
-use Rattle.std.specs.Prelude.{ℤ, slice_get, if◌then◌else◌}
-use Rattle.std.proofs.lemmas.Bool.{and_parts}
+use Rattle.std.proofs.Common.{◌≡◌, ℕ, ◌+◌, Bool, true, false, not, List, [], ◌∷◌, ◌++◌, Option, Some, None, refl, ap, sym, ◌∙◌}
+use Rattle.std.specs.Prelude.{ℤ}
 use Rattle.fx_script.specs.declared.job.Stmt.{Stmt}
 use Rattle.fx_script.specs.declared.job.Stmt.TheVariants as stmt
 use Rattle.fx_script.specs.declared.job.Stmt.TheOpen.{Stmt-F}
@@ -15,13 +14,12 @@ use Rattle.fx_base.specs.declared.spot.Spot.{Spot}
 use Rattle.fx_check.specs.Rules.{callback_place, may_stand_in_callback}
 use Rattle.fx_walk.specs.declared.action.View.{View}
 use Rattle.fx_walk.specs.declared.printed.Printed.{Printed}
-use Rattle.fx_walk.specs.State.{State, with_elements, elements_of, array_slot}
+use Rattle.fx_walk.specs.State.{State, with_elements, elements_of}
 use Rattle.fx_walk.specs.Values.{sight, values_from}
-use Rattle.fx_walk.specs.Walk.{Walk, Ends, Passes, Prints, Asks, Onward, Meaning, printed_of, walk_level, walk, ended}
+use Rattle.fx_walk.specs.Walk.{Ends, Passes, Prints, Asks, Onward, Meaning, printed_of, walk_level, walk, ended}
 use Rattle.fx_flow.specs.declared.instr.Instr.{Instr}
-use Rattle.fx_flow.specs.declared.instr.Instr.TheVariants as instr
 use Rattle.fx_flow.specs.declared.instr.Loop.{Loop}
-use Rattle.fx_flow.specs.Code.{Stand, Moves, goes, acts_on, acts, DeclaresMembers, AsksAs, Leads, Nothing, DoesLet, DoesSet, DoesPrint, DoesRegister, DoesWhen, DoesIf, DoesIfAlone, DoesFor, DoesOutward}
+use Rattle.fx_flow.specs.Code.{Moves, goes, acts, DeclaresMembers, AsksAs, Leads, Nothing, DoesLet, DoesSet, DoesPrint, DoesRegister, DoesWhen, DoesIf, DoesIfAlone, DoesFor, DoesOutward}
 use Rattle.fx_flow.specs.declared.instr.Outward.{Outward}
 use Rattle.fx_flow.specs.Outward.{wanted_by, taken_by}
 use Rattle.fx_flow.specs.Flowing.{before}

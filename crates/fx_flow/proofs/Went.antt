@@ -6,7 +6,6 @@ use Rattle.fx_walk.specs.declared.action.At.{At}
 use Rattle.fx_walk.specs.declared.action.At.TheVariants as at
 use Rattle.fx_walk.specs.declared.action.View.{View}
 use Rattle.fx_walk.specs.declared.printed.Printed.{Printed}
-use Rattle.fx_walk.specs.declared.wanted.Wanted.{Wanted}
 use Rattle.fx_walk.specs.Along.{at_of}
 use Rattle.fx_walk.specs.State.{State}
 use Rattle.fx_walk.specs.Walk.{Given, Reply, Walk, Ends, Passes, Prints, Asks, view_after}

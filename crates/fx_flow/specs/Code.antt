@@ -1,5 +1,5 @@
 -- Flat code: what its instructions do, when it does what is left of a walk, and when it is the code of statements.
-use Rattle.std.specs.Prelude.{◌≡◌, refl, ℕ, zero, suc, ◌-◌, ℤ, pos, Bool, true, false, if◌then◌else◌, List, [], ◌∷◌, codes, map, slice_get, Option, Some, None}
+use Rattle.std.specs.Prelude.{◌≡◌, refl, ℕ, zero, suc, ◌-◌, ℤ, pos, Bool, true, if◌then◌else◌, List, [], ◌∷◌, codes, slice_get, Option, Some, None}
 use Rattle.fx_base.specs.declared.names.Role.{Role}
 use Rattle.fx_base.specs.declared.names.Role.TheVariants as role
 use Rattle.fx_base.specs.declared.spot.Spot.{Spot}

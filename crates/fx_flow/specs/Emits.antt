@@ -1,5 +1,5 @@
 -- What is put behind code.
-use Rattle.std.specs.Prelude.{◌≡◌, ℕ, Bool, true, List, [], ◌∷◌, ◌++◌, slice_get, Option, Some, None}
+use Rattle.std.specs.Prelude.{◌≡◌, ℕ, List, [], ◌∷◌, ◌++◌, slice_get, Some}
 use Rattle.fx_script.specs.declared.job.Picked.{Picked}
 use Rattle.fx_script.specs.declared.job.Stmt.{Stmt}
 use Rattle.fx_check.specs.Facts.{Facts}

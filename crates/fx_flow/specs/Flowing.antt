@@ -1,5 +1,5 @@
 -- A flow as it is seen, and what it is to do the rest of a walk.
-use Rattle.std.specs.Prelude.{◌≡◌, ℕ, ℤ, Bool, true, false, List, [], ◌∷◌, length, slice_get, Option, Some, None, is_some, IsSomeAnd}
+use Rattle.std.specs.Prelude.{◌≡◌, ℕ, Bool, true, List, [], ◌∷◌, length, slice_get, Option, Some, None, is_some, IsSomeAnd}
 use Rattle.std.specs.Str.{bytes_eq}
 use Rattle.fx_base.specs.declared.names.MemberId.{MemberId}
 use Rattle.fx_script.specs.declared.job.Callback.{Callback}
@@ -15,7 +15,7 @@ use Rattle.fx_walk.specs.declared.printed.Printed.{Printed}
 use Rattle.fx_walk.specs.declared.wanted.Wanted.{Wanted}
 use Rattle.fx_walk.specs.declared.wanted.Wanted.TheVariants as wanted
 use Rattle.fx_walk.specs.State.{State}
-use Rattle.fx_walk.specs.Walk.{Reply, Walk, Ends, Passes, Prints, Asks, view_after}
+use Rattle.fx_walk.specs.Walk.{Reply, Walk, Passes, Prints, Asks, view_after}
 use Rattle.fx_value.specs.Shape.{IsShaped}
 use Rattle.fx_flow.specs.declared.instr.Instr.{Instr}
 use Rattle.fx_flow.specs.declared.instr.Instr.TheVariants as instr

@@ -1,5 +1,5 @@
 -- Open loops, the innermost first.
-use Rattle.std.specs.Prelude.{◌≡◌, Bool, true, false, List, [], ◌∷◌, Option, Some, None}
+use Rattle.std.specs.Prelude.{Bool, true, false, List, [], ◌∷◌, Option, Some, None}
 use Rattle.fx_flow.specs.declared.instr.Loop.{Loop}
 
 abbrev pub is_open : List Loop → Bool

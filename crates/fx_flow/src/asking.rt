@@ -1,4 +1,4 @@
-ghost use Rattle.std.specs.Prelude.{◌≡◌, pos, IfOk, get_or};
+ghost use Rattle.std.specs.Prelude.{◌≡◌, [], pos, IfOk, get_or};
 ghost use Rattle.fx_walk.specs.Values.{combined, reduced, reduced_with};
 ghost use Rattle.fx_flow.specs.Outward.{is_selected, selected, wanted_by};
 
@@ -26,7 +26,7 @@ pub fn wanted_by(
             Ok(Wanted::Agree(element_at(values.array(*array), *index)))
         }
         Outward::Shift { by, source, .. } => {
-            let elements = elements_of(alloc, values.array(*source))?;
+            let elements = copied_array(alloc, values, *source)?;
             Ok(Wanted::Shift(*by, elements))
         }
         Outward::Group {
@@ -65,6 +65,16 @@ fn element_at(elements: &[i64], index: usize) -> i64
     match elements.get(index) {
         Some(element) => *element,
         None => 0,
+    }
+}
+
+/// A copy of the elements of the array in this slot, none where there is no array.
+pub fn copied_array(alloc: Global, values: &Values, slot: usize) -> Result<Elems, NoMemory>
+    ensures { IfOk result (λ made. made ≡ get_or values.now.arrays slot []) }
+{
+    match values.elements(slot) {
+        Some(elements) => elements.copy(),
+        None => Ok(Elems::new(alloc)),
     }
 }
 

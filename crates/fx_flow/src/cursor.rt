@@ -10,7 +10,7 @@ ghost use Rattle.fx_flow.specs.Loops.{is_open};
 ghost use Rattle.fx_flow.specs.Stands.{moved_to};
 ghost use Rattle.fx_flow.specs.Outward.{takes_elements, takes_entries, takes_number};
 
-use crate::asking::elements_of;
+use crate::asking::{copied_array, elements_of};
 use crate::instr::{Loop, Variable};
 use crate::loops::Loops;
 use fx_base::{Bytes, Elems, NoMemory, Role, Sparse};
@@ -153,7 +153,7 @@ impl Cursor {
         ensures { IfOk result (λ printed. printed ≡ record { name = name.now; values = values_at self.now.state variable }) }
     {
         let values = match variable {
-            Variable::Array(slot) => elements_of(alloc, self.values.array(slot))?,
+            Variable::Array(slot) => copied_array(alloc, &self.values, slot)?,
             Variable::Counter(slot) => elements_of(alloc, &[self.values.counter(slot)])?,
         };
         Ok(Printed {

@@ -30,6 +30,7 @@ use fx_node::{Moved, Node, Outbox};
 use fx_sched::{Moment, Moments};
 use std::alloc::Global;
 use std::marker::Model;
+use std::mem;
 
 /// All processes of a job, what is under way between them, and the counts of all that was told. Each process that is handed in,
 /// also in a moment, is below the number of processes of the job.
@@ -45,6 +46,7 @@ pub struct World {
     posts: Vec<Post>,
     links: Links,
     teller: Teller,
+    items: Items,
     failed: bool,
 }
 
@@ -95,6 +97,7 @@ impl World {
             posts,
             links: Links::new(alloc, procs)?,
             teller: Teller::new(alloc),
+            items: Items::new(alloc),
             failed: false,
         })
     }
@@ -398,12 +401,31 @@ impl World {
         ensures acts { IfOk result (λ acted. (job : Job) (w : defined.World) → AsksNothing job → IsWorldOf job self.old w → acted ≡ not (is_quiet (job_setup job) p.0 w)) }
         ensures of_all { IsOfSame self.old self.new }
     {
+        let mut items = mem::replace(&mut self.items, Items::new(self.alloc));
+        let end = self.step_in(p, &mut items, shown, sink);
+        self.items = items;
+        end
+    }
+
+    // The same, with room for the items of the step.
+    fn step_in<K: Sink>(
+        &mut self,
+        p: Proc,
+        items: &mut Items,
+        shown: Shown,
+        sink: &mut K,
+    ) -> Result<bool, RunEnd>
+        requires { p.0 < self.old.procs }
+        ensures goes { Goes _ self.old self.new shown (K.state sink.old) (K.state sink.new) (stepping p.0) result }
+        ensures acts { IfOk result (λ acted. (job : Job) (w : defined.World) → AsksNothing job → IsWorldOf job self.old w → acted ≡ not (is_quiet (job_setup job) p.0 w)) }
+        ensures of_all { IsOfSame self.old self.new }
+    {
         if !self.is_up(p) {
             return Ok(false);
         }
         let mut sends = Outbox::new(self.alloc);
-        let mut items = Items::new(self.alloc);
-        match self.posts[usize::from(p.0)].step(&mut sends, &mut items)? {
+        items.clear();
+        match self.posts[usize::from(p.0)].step(&mut sends, items)? {
             Moved::Acted => {
                 self.carry_out(p, items.as_slice(), sends, shown, sink)?;
                 Ok(true)

@@ -1,4 +1,4 @@
-use Rattle.std.proofs.Common.{rules, ℕ, w64, ◌≡◌, ◌<◌, ◌+◌, ◌++◌, ◌∷◌, [], List, true, false, length, take, get_or, arith, sym, ap, ◌∙◌, refl}
+use Rattle.std.proofs.Common.{rules, ℕ, w64, ◌≡◌, ◌<◌, length, get_or, arith, sym, ap, ◌∙◌}
 use Rattle.std.specs.Prelude.{pos}
 use Rattle.std.specs.FinMap.{insert}
 use Rattle.std.specs.Ordering.{nat_cmp}

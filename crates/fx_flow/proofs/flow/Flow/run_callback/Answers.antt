@@ -1,4 +1,4 @@
-use Rattle.std.proofs.Common.{◌≡◌, ℕ, Some, None}
+use Rattle.std.proofs.Common.{ℕ}
 use Rattle.fx_flow.specs.Flowing.{Flowing}
 use Rattle.fx_flow.proofs.Calls.{call_prints, call_leaves, call_stays, nothing_printed, nothing_left_behind}
 use Rattle.fx_flow.proofs.flow.Flow.run_callback.Goals as goal

@@ -1,4 +1,4 @@
-use Rattle.std.proofs.Common.{◌≡◌, ap, ◌∙◌}
+use Rattle.std.proofs.Common.{ap, ◌∙◌}
 use Rattle.fx_flow.specs.Flowing.{Flowing}
 use Rattle.fx_flow.proofs.Calls.{run_begins}
 use Rattle.fx_flow.proofs.flow.Flow.run_callbacks.Goals as goal

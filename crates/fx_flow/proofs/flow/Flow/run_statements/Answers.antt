@@ -1,17 +1,13 @@
-use Rattle.std.proofs.Common.{◌≡◌, ◌<◌, ◌≤◌, ◌++◌, ◌∷◌, [], ◌-◌, Bool, true, List, Option, Some, None, arith, sym, ap, subst, ◌∙◌}
+use Rattle.std.proofs.Common.{◌≡◌, ◌<◌, ◌++◌, ◌-◌, true, List, Option, Some, None, arith, ap, subst, ◌∙◌}
 use Rattle.fx_script.specs.declared.job.Job.{Job}
 use Rattle.fx_script.specs.declared.job.Stmt.{Stmt}
-use Rattle.fx_check.specs.Facts.{facts_of}
 use Rattle.fx_walk.specs.declared.action.At.{At}
 use Rattle.fx_walk.specs.declared.action.At.TheVariants as at
 use Rattle.fx_walk.specs.declared.printed.Printed.{Printed}
 use Rattle.fx_walk.specs.contracts.action.At.{the_type}
-use Rattle.fx_walk.specs.Along.{outputs, stop_of}
-use Rattle.fx_walk.specs.Callbacks.{prints_of, state_at}
-use Rattle.fx_walk.specs.Walk.{walk_of}
 use Rattle.std.proofs.lemmas.List.{append-nil}
 use denote.Enum.Bare.{sameb}
-use Rattle.fx_flow.specs.Flowing.{IsDue, next_of, state_of}
+use Rattle.fx_flow.specs.Flowing.{IsDue}
 use Rattle.fx_flow.proofs.Calls.{Continues, one_less, none_left, plain_where_left, told}
 use Rattle.fx_flow.proofs.flow.Flow.run_statements.Goals as goal
 use Rattle.fx_flow.proofs.flow.Flow.run_statements.Goals.{in-Some+in_ok-push, in_default, then-loop-left-test+else-eq, else-loop-left-test}

@@ -16,7 +16,7 @@ use Rattle.fx_world.proofs.Grows.{step_adds}
 use Rattle.fx_world.proofs.Related.{one_of}
 use Rattle.fx_world.proofs.Singles.{post_is, same_links_sound}
 use Rattle.fx_world.proofs.Stepping.{all_did, is_quiet_now, no_step, not_quiet, rests_now, step_begins, taken, waits, waits_on}
-use Rattle.fx_world.proofs.world.World.step.Goals as goal
+use Rattle.fx_world.proofs.world.World.step_in.Goals as goal
 
 pub invariant_of-self : goal.invariant_of-self
 invariant_of-self g c =
@@ -43,7 +43,7 @@ returns-in_err-carry_out-in-Acted-clause-goes g c =
     let p_in = subst (λ (s : Standings). c.args.p.0 < s.procs) (sym c.self.view_is) c.requires in
     let on : c.is_up.result ≡ true = grind (arith, nat_tests, c.if-not-is_up.false) in
     let post = post_is before c.self.invariant c.from.result c.args.p.0 c.from.ensures p_in c.index_mut.result.now c.index_mut.ensures.value in
-    let passes = rw (post, c.new-sends.ensures, c.new-items.ensures, c.in-Acted.is) at c.in_ok-step.ensures.steps in
+    let passes = rw (post, c.new-sends.ensures, c.clear.ensures, c.in-Acted.is) at c.in_ok-step.ensures.steps in
     let act = λ (job : Job) (w : World) (plain : AsksNothing job) (is : IsWorldOf job before w) (is_on : up (job_setup job) w c.args.p.0 ≡ true). taken job before w c.args.p.0 c.step.new.self c.step.new.sends c.step.new.items is p_in plain is_on passes in
     let p = err_from_is_err_and c.from_residual-in_err-carry_out-in-Acted.result c.from_residual-in_err-carry_out-in-Acted.ensures.1 in
     rw (← c.self.view_is, p.1, p.2) (is_cut _ before _ c.args.shown _ _ (stepping c.args.p.0) (c.step.new.items ++ map (sent_item c.args.p) c.step.new.sends) c.in_err-carry_out-in-Acted.field-0.0 (rw c.as_slice.ensures at c.in_err-carry_out-in-Acted.ensures.writes)
@@ -64,7 +64,7 @@ returns-in_ok-carry_out-in-Acted-clause-goes g c =
     let p_in = subst (λ (s : Standings). c.args.p.0 < s.procs) (sym c.self.view_is) c.requires in
     let on : c.is_up.result ≡ true = grind (arith, nat_tests, c.if-not-is_up.false) in
     let post = post_is before c.self.invariant c.from.result c.args.p.0 c.from.ensures p_in c.index_mut.result.now c.index_mut.ensures.value in
-    let passes = rw (post, c.new-sends.ensures, c.new-items.ensures, c.in-Acted.is) at c.in_ok-step.ensures.steps in
+    let passes = rw (post, c.new-sends.ensures, c.clear.ensures, c.in-Acted.is) at c.in_ok-step.ensures.steps in
     let act = λ (job : Job) (w : World) (plain : AsksNothing job) (is : IsWorldOf job before w) (is_on : up (job_setup job) w c.args.p.0 ≡ true). taken job before w c.args.p.0 c.step.new.self c.step.new.sends c.step.new.items is p_in plain is_on passes in
     let receivers = c.in_ok-step.ensures.to_processes before.procs (rw post (one_of before c.args.p.0 c.self.invariant p_in)) (rw c.new-sends.ensures (All-nil (λ (x : Proc × Message). x.0.0 < before.procs))) in
     rw (← c.self.view_is) (does_and_tells _ _ before _ c.args.shown _ _ (stepping c.args.p.0) (c.step.new.items ++ map (sent_item c.args.p) c.step.new.sends) (rw c.as_slice.ensures at c.in_ok-carry_out-in-Acted.ensures.writes) (rw c.as_slice.ensures at c.in_ok-carry_out-in-Acted.ensures.counts)
@@ -78,7 +78,7 @@ returns-in_ok-carry_out-in-Acted-clause-acts g c =
     let p_in = subst (λ (s : Standings). c.args.p.0 < s.procs) (sym c.self.view_is) c.requires in
     let on : c.is_up.result ≡ true = grind (arith, nat_tests, c.if-not-is_up.false) in
     let post = post_is before c.self.invariant c.from.result c.args.p.0 c.from.ensures p_in c.index_mut.result.now c.index_mut.ensures.value in
-    let passes = rw (post, c.new-sends.ensures, c.new-items.ensures, c.in-Acted.is) at c.in_ok-step.ensures.steps in
+    let passes = rw (post, c.new-sends.ensures, c.clear.ensures, c.in-Acted.is) at c.in_ok-step.ensures.steps in
     let act = λ (job : Job) (w : World) (plain : AsksNothing job) (is : IsWorldOf job before w) (is_on : up (job_setup job) w c.args.p.0 ≡ true). taken job before w c.args.p.0 c.step.new.self c.step.new.sends c.step.new.items is p_in plain is_on passes in
     λ job w plain is.
     let is_it = subst (λ (s : Standings). IsWorldOf job s w) (sym c.self.view_is) is in
@@ -91,7 +91,7 @@ returns-in-Quiet g c =
     let p_in = subst (λ (s : Standings). c.args.p.0 < s.procs) (sym c.self.view_is) c.requires in
     let on : c.is_up.result ≡ true = grind (arith, nat_tests, c.if-not-is_up.false) in
     let post = post_is before c.self.invariant c.from.result c.args.p.0 c.from.ensures p_in c.index_mut.result.now c.index_mut.ensures.value in
-    let passes = rw (post, c.new-sends.ensures, c.new-items.ensures) at c.in_ok-step.ensures.steps in
+    let passes = rw (post, c.new-sends.ensures, c.clear.ensures) at c.in_ok-step.ensures.steps in
     let other = rests_now c.in_ok-step.field-0 c.in-Quiet.is in
     let wait = λ (job : Job) (w : World) (plain : AsksNothing job) (is : IsWorldOf job before w) (is_on : up (job_setup job) w c.args.p.0 ≡ true). waits job before w c.args.p.0 c.in_ok-step.field-0 c.step.new.self c.step.new.sends c.step.new.items is p_in plain is_on other passes in
     record {
