@@ -58,6 +58,7 @@ impl Flow {
         let job = job.job();
         let indexed = IndexedJob::new(alloc, job)?;
         let mut code = Seq::new(alloc);
+        code.reserve(job.body.len())?;
         let _ = put(&mut code, Instr::End)?;
         let begin = emit_stmts(alloc, &indexed, &mut code, job.body.as_slice(), 0)?;
         let routines = emit_routines(alloc, &indexed, &mut code)?;

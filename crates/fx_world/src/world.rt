@@ -483,6 +483,9 @@ impl World {
         ensures writes { Puts (K.state sink.old) (K.state sink.new) (shown_text shown (map (sent_item p) sends)) result }
         ensures of_all { IsOfSame self.old self.new }
     {
+        if sends.is_empty() {
+            return Ok(());
+        }
         for (q, message) in sends.into_items() {
             self.send(p, q, message, shown, sink)?;
         }

@@ -9,7 +9,7 @@ use Rattle.fx_flow.proofs.flow.Flow.new.Goals as goal
 
 pub returns-clause-of_job : goal.returns-clause-of_job
 returns-clause-of_job c =
-    let one = c.in_ok-put.ensures.grew ∙ ap (λ (l : List Instr). l ++ instr.End ∷ []) c.new-code.ensures in
+    let one = c.in_ok-put.ensures.grew ∙ ap (λ (l : List Instr). l ++ instr.End ∷ []) (c.reserve.ensures ∙ c.new-code.ensures) in
     let emits = rw (c.in_ok-indexed.ensures, c.as_slice.ensures, c.job-job.ensures.same) at c.in_ok-begin.ensures in
     let are = rw (c.in_ok-indexed.ensures, c.job-job.ensures.same) at c.in_ok-routines.ensures.are in
     let parts = c.job-job.ensures.by_parts in
