@@ -16,7 +16,7 @@ use Rattle.fx_flow.specs.declared.instr.Instr.TheVariants as instr
 use Rattle.fx_flow.specs.declared.instr.Routine.{Routine}
 use Rattle.fx_flow.specs.Code.{Leads, start}
 use Rattle.fx_flow.specs.Emits.{Emits, Grows}
-use Rattle.fx_flow.specs.Flowing.{AreRoutines, IsFlowOf, IsRoutine, is_routine_of, part_of}
+use Rattle.fx_flow.specs.Flowing.{Flowing, AreRoutines, IsFlowOf, IsRoutine, is_routine_of, part_of}
 use Rattle.fx_flow.proofs.Emitted.{get_grown, grown}
 
 -- ---- code that grows
@@ -81,6 +81,10 @@ flow_made job a b c begin routines parts one emits grew are =
       are_routines = are second;
       shaped = shaped_blank job.names;
     }
+
+-- the same code, at the beginning of the body again, with nothing computed yet
+pub another_made : (job : Job) (old : Flowing) → IsFlowOf job old → IsFlowOf job (record old { stand = start old.begin (blank_of job.names) })
+another_made job old of = record { accepted = of.accepted; is_code = of.is_code; are_routines = of.are_routines; shaped = shaped_blank job.names }
 
 -- ---- the routine of a name
 

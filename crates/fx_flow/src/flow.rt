@@ -25,15 +25,23 @@ use fx_check::{Accepted, IndexedJob};
 use fx_walk::{At, CallbackRun, Called, Printed, Prints, View, Wanted};
 use std::alloc::Global;
 use std::marker::Model;
+use std::rc::Rc;
 
-/// The flat code of a job's body, with a cursor in it, counters, arrays and registered callbacks.
+/// The flat code of a job's body, with a cursor in it, counters, arrays and registered callbacks. Flows of one job can share
+/// their code.
 #[derive(Debug, Drop)]
 pub struct Flow {
     alloc: Global,
-    code: Seq<Instr>,
+    code: Rc<Code, Global>,
+    cursor: Cursor,
+}
+
+// The flat code of a job: its instructions, where the body begins, and where each callback does.
+#[derive(Debug, Drop)]
+struct Code {
+    instrs: Seq<Instr>,
     begin: usize,
     routines: Seq<Routine>,
-    cursor: Cursor,
 }
 
 impl Model for Flow {
@@ -44,7 +52,7 @@ impl Model for Flow {
 
     ghost coded = { flow_code };
 
-    ghost view = { λ f. record { code = f.code; begin = f.begin; routines = f.routines; stand = f.cursor } };
+    ghost view = { λ f. record { code = f.code.value.instrs; begin = f.code.value.begin; routines = f.code.value.routines; stand = f.cursor } };
 }
 
 impl Flow {
@@ -63,12 +71,32 @@ impl Flow {
         let begin = emit_stmts(alloc, &indexed, &mut code, job.body.as_slice(), 0)?;
         let routines = emit_routines(alloc, &indexed, &mut code)?;
         let cursor = Cursor::new(alloc, job.names.as_slice(), begin)?;
+        let code = Rc::new(
+            alloc,
+            Code {
+                instrs: code,
+                begin,
+                routines,
+            },
+        )?;
         Ok(Flow {
             alloc,
             code,
-            begin,
-            routines,
             cursor,
+        })
+    }
+
+    /// Another flow of the same job, at the beginning of its body. The two share their code.
+    pub fn another(&self, job: &Accepted) -> Result<Flow, NoMemory>
+        requires { IsFlowOf job.now self.now }
+        ensures of_job { IfOk result (λ flow. IsFlowOf job.now flow) }
+        ensures begins { IfOk result (λ flow. (view : View) → DoesRest view (job_walk job.now view (blank (facts_of job.now))) flow) }
+        ensures blank { IfOk result (λ flow. state_of flow ≡ blank (facts_of job.now)) }
+    {
+        Ok(Flow {
+            alloc: self.alloc,
+            code: self.code.clone()?,
+            cursor: Cursor::new(self.alloc, job.job().names.as_slice(), self.code.begin)?,
         })
     }
 
@@ -77,7 +105,7 @@ impl Flow {
         ensures same { result ≡ next_of self.now }
         ensures of_walk { (view : View) (walk : Walk) → DoesRest view walk self.now → result ≡ at_of walk }
     {
-        match self.code.nth(self.cursor.place()) {
+        match self.code.instrs.nth(self.cursor.place()) {
             None | Some(Instr::End) => {
                 if self.cursor.is_open() {
                     At::Plain
@@ -109,7 +137,7 @@ impl Flow {
         ensures asked { IfOk result (λ wanted. (walk : Walk) → DoesRest view.now walk self.now → AsksFor walk wanted) }
         ensures need { IfOk result (λ wanted. TellsNeed self.now wanted) }
     {
-        match outward_at(&self.code, self.cursor.place()) {
+        match outward_at(&self.code.instrs, self.cursor.place()) {
             Some((what, _)) => wanted_by(self.alloc, what, view, self.cursor.values()),
             None => unreachable!(),
         }
@@ -122,7 +150,7 @@ impl Flow {
         ensures goes_on { (view : View) (walk : Walk) (latest : List ℤ) → DoesRest view walk self.old → WasAnswered view walk (record { given = Number value; latest = latest }) self.new }
         ensures same_job { (job : Job) → IsFlowOf job self.old → IsFlowOf job self.new }
     {
-        if let Some((what, next)) = outward_at(&self.code, self.cursor.place())
+        if let Some((what, next)) = outward_at(&self.code.instrs, self.cursor.place())
             && let Some(counter) = counter_of(what)
         {
             self.cursor.take_number(counter, value, next);
@@ -136,7 +164,7 @@ impl Flow {
         ensures goes_on { (view : View) (walk : Walk) (latest : List ℤ) → DoesRest view walk self.old → WasAnswered view walk (record { given = Elements values; latest = latest }) self.new }
         ensures same_job { (job : Job) → IsFlowOf job self.old → IsFlowOf job self.new }
     {
-        if let Some((what, next)) = outward_at(&self.code, self.cursor.place())
+        if let Some((what, next)) = outward_at(&self.code.instrs, self.cursor.place())
             && let Some(target) = target_of(what)
         {
             self.cursor.take_elements(target, values, next);
@@ -150,7 +178,7 @@ impl Flow {
         ensures goes_on { (view : View) (walk : Walk) (latest : List ℤ) → DoesRest view walk self.old → WasAnswered view walk (record { given = Entries values.now; latest = latest }) self.new }
         ensures same_job { (job : Job) → IsFlowOf job self.old → IsFlowOf job self.new }
     {
-        if let Some((what, next)) = outward_at(&self.code, self.cursor.place())
+        if let Some((what, next)) = outward_at(&self.code.instrs, self.cursor.place())
             && let Some((_, array)) = restored_of(what)
         {
             self.cursor.take_entries(array, values, next);
@@ -163,7 +191,7 @@ impl Flow {
         ensures goes_on { (view : View) (walk : Walk) (latest : List ℤ) → DoesRest view walk self.old → WasAnswered view walk (record { given = Nothing; latest = latest }) self.new }
         ensures same_job { (job : Job) → IsFlowOf job self.old → IsFlowOf job self.new }
     {
-        if let Some((_, next)) = outward_at(&self.code, self.cursor.place()) {
+        if let Some((_, next)) = outward_at(&self.code.instrs, self.cursor.place()) {
             self.cursor.move_to(next);
         }
     }
@@ -177,7 +205,7 @@ impl Flow {
         ensures keeps { (job : Job) → IsFlowOf job self.old → state_of self.new ≡ at_init (facts_of job) role (state_of self.old) }
         ensures same_job { (job : Job) → IsFlowOf job self.old → IsFlowOf job self.new }
     {
-        self.cursor.rewind(self.begin, role);
+        self.cursor.rewind(self.code.begin, role);
     }
 
     /// Runs the registered callbacks, in the order of registration, each from the state that the one
@@ -218,7 +246,7 @@ impl Flow {
         ensures leaves { OnOk result ((job : Job) → IsFlowOf job self.old → state_of self.new ≡ state_behind (facts_of job) view.now (state_of self.old) name.now) }
         ensures stays { (job : Job) → IsFlowOf job self.old → Ran job self.old self.new }
     {
-        match routine_of(self.routines.as_slice(), name) {
+        match routine_of(self.code.routines.as_slice(), name) {
             Some(part) => {
                 self.cursor.move_to(part.begin);
                 self.run_statements(view, part.count)
@@ -252,7 +280,7 @@ impl Flow {
         ensures acts { IfOk result (λ printed. acts self.old.code view.now self.old.stand ≡ Moves printed self.new.stand) }
         ensures no_memory { OnErr result (self.new ≡ self.old) }
     {
-        match self.code.nth(self.cursor.place()) {
+        match self.code.instrs.nth(self.cursor.place()) {
             None | Some(Instr::End) => {
                 self.cursor.end_turn();
                 Ok(None)

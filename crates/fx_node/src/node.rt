@@ -109,9 +109,11 @@ impl Model for Node {
 }
 
 impl Node {
-    /// Process `me` of an accepted job, before it has done anything.
-    pub fn new(alloc: Global, job: &Accepted, me: Proc) -> Result<Node, NoMemory>
-        requires { me.0 < procs_of job.now }
+    /// Process `me` of an accepted job, before it has done anything. It shares the code of `flow`, which must be a flow of the
+    /// job.
+    pub fn new(alloc: Global, job: &Accepted, flow: &Flow, me: Proc) -> Result<Node, NoMemory>
+        requires below { me.0 < procs_of job.now }
+        requires flow { IsFlowOf job.now flow.now }
         ensures begins { IfOk result (λ node. IsNodeOf job.now node (first_node (job_setup job.now) me.0)) }
         ensures of_all { IfOk result (λ node. processes node ≡ procs_of job.now) }
     {
@@ -131,7 +133,7 @@ impl Node {
                 size: 1,
                 latest: [-1; 8],
             },
-            flow: Flow::new(alloc, job)?,
+            flow: flow.another(job)?,
             inbox: Inbox::new(alloc, procs, me)?,
             failed: false,
         })

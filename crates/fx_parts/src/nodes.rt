@@ -3,6 +3,7 @@ ghost use Rattle.fx_node.specs.Standing.{processes};
 
 use crate::jobs::{TWO_RANKS, job_of};
 use fx_base::{CallNo, Elems, Epoch, Ident, Proc, Seats, Seq, Stamp, StampShares, Stamps};
+use fx_flow::Flow;
 use fx_item::{Item, Items};
 use fx_link::{Known, Message, Slot, Slots};
 use fx_node::{Moved, Node, Outbox};
@@ -90,7 +91,7 @@ fn a_node_hears_whatever_comes_between_its_steps(rt: HostRuntime) -> Result<(), 
     let alloc = rt.alloc();
     let job = job_of(&rt, alloc, TWO_RANKS)?;
     assert!(rt; job.procs() > 1);
-    let mut node = Node::new(alloc, &job, Proc(1))?;
+    let mut node = Node::new(alloc, &job, &Flow::new(alloc, &job)?, Proc(1))?;
     let mut sends = Outbox::new(alloc);
     let mut items = Items::new(alloc);
     let mut moved = Moved::Acted;

@@ -23,6 +23,7 @@ use crate::shown::Shown;
 use crate::teller::Teller;
 use fx_base::{NoMemory, Proc};
 use fx_check::Accepted;
+use fx_flow::Flow;
 use fx_io::{PutEnd, Sink};
 use fx_item::{Item, Items};
 use fx_link::{Links, Message};
@@ -86,9 +87,10 @@ impl World {
         ensures well { IfOk result (λ world. world.failed ≡ false) }
     {
         let procs = job.procs();
+        let flow = Flow::new(alloc, job)?;
         let mut posts = Vec::new(alloc);
         for process in 0..procs {
-            posts.push(Post::new(Node::new(alloc, job, Proc(process))?))?;
+            posts.push(Post::new(Node::new(alloc, job, &flow, Proc(process))?))?;
         }
         Ok(World {
             alloc,

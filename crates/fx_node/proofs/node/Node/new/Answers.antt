@@ -9,11 +9,11 @@ use Rattle.fx_node.proofs.node.Node.new.Goals as goal
 
 pub invariant_of-result : goal.invariant_of-result
 invariant_of-result c =
-    let many = c.in_ok-new-2.ensures.of_all in
+    let many = c.in_ok-new.ensures.of_all in
     record {
       few = at_most_32 _ _ many c.procs-procs.ensures.at_most;
-      one_of_them = among _ _ _ _ many c.procs-procs.ensures.same c.requires;
-      same = (c.in_ok-new-2.ensures.knows (job_setup c.args.job.now)).same;
+      one_of_them = among _ _ _ _ many c.procs-procs.ensures.same c.requires.below;
+      same = (c.in_ok-new.ensures.knows (job_setup c.args.job.now)).same;
       members = subst (λ (bound : ℕ). All (λ q. q < bound) c.in_ok-all_below.field-0) (sym many) c.in_ok-all_below.ensures.below;
       count = at_most_32 _ _ c.in_ok-all_below.ensures.count c.procs-procs.ensures.at_most;
       apart = c.in_ok-all_below.ensures.apart;
@@ -26,9 +26,9 @@ returns-clause-begins c = record {
   epoch = refl;
   comm = ap first_seats (sym c.ranks-2.ensures.same) ∙ sym c.in_ok-first.ensures;
   present = ap (λ (procs : ℕ). those_below (λ q. true) procs) (sym c.procs-procs.ensures.same) ∙ sym c.in_ok-all_below.ensures.all;
-  member = is_below (procs_of c.args.job.now) c.args.me.0 c.requires;
+  member = is_below (procs_of c.args.job.now) c.args.me.0 c.requires.below;
   role = refl;
-  is_flow = c.in_ok-new.ensures.of_job;
-  knows = c.in_ok-new-2.ensures.knows (job_setup c.args.job.now);
-  stands = (refl, ap Ends (sym c.in_ok-new.ensures.blank), refl, refl);
+  is_flow = c.in_ok-another.ensures.of_job;
+  knows = c.in_ok-new.ensures.knows (job_setup c.args.job.now);
+  stands = (refl, ap Ends (sym c.in_ok-another.ensures.blank), refl, refl);
 }
