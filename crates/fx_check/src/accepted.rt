@@ -81,7 +81,7 @@ impl Accepted {
     }
 
     /// The bound for the fair rounds of a tail: with P processes and the work W, it is
-    /// P * (2P + 2) * (W + 2) * (P + 8), at most 261,146,112. No contract ties it to a run yet.
+    /// P * (2P + 2) * (W + 2) * (P + 8), at most 261,146,112.
     pub fn bound(&self) -> u64
         ensures same { result ≡ bound_of self.now }
         ensures at_most { result ≤ 261146112 }

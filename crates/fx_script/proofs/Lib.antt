@@ -15,6 +15,7 @@ pub mod Placed
 pub mod Respotted
 pub mod ExprSteps
 pub mod PairSteps
+pub mod ByKeyword
 pub mod CanonLines
 pub mod CanonAlone
 pub mod PrintLemmas

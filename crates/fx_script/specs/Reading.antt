@@ -50,6 +50,19 @@ abbrev pub head_in : DuePart → List Block → Spot → Word → Left → Resul
 head_in due_part.Stopped blocks spot first left = Err (record { fault = TrailingText; column = first.column })
 head_in s blocks spot first left = head_placed s blocks (keyword_of first.bytes) spot first left
 
+-- the keyword of a line, if it may stand at this part
+abbrev pub keyword_allowed : DuePart → List Block → Option Keyword → Word → Result Keyword Wrong
+keyword_allowed s blocks None first = Err (misfit first)
+keyword_allowed s blocks (Some keyword) first = if may_stand s blocks keyword then Ok keyword else Err (misfit first)
+
+abbrev pub keyword_placed : DuePart → List Block → Word → Result Keyword Wrong
+keyword_placed due_part.Stopped blocks first = Err (record { fault = TrailingText; column = first.column })
+keyword_placed s blocks first = keyword_allowed s blocks (keyword_of first.bytes) first
+
+-- the draft behind what a line with this keyword says
+abbrev pub said_by : Draft → Keyword → Spot → Left → Result Draft Wrong
+said_by d keyword spot left = head_at keyword spot left >>= λ head. Ok (moved d spot head)
+
 -- the draft behind a line in which this is met
 abbrev pub taken : Draft → Option Met → Result Draft Wrong
 taken d None = Ok d

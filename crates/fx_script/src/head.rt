@@ -128,7 +128,8 @@ fn read_edge(alloc: Global, word: EdgeWord, cursor: &mut Cursor) -> Result<EdgeH
     }
 }
 
-fn read_event(word: EventWord, cursor: &mut Cursor) -> Result<EventKind, Stop>
+/// Reads the words of an event, behind its keyword.
+pub fn read_event(word: EventWord, cursor: &mut Cursor) -> Result<EventKind, Stop>
     ensures { GivesLeaving result cursor.new (event_at word cursor.old) }
 {
     match word {

@@ -1,13 +1,15 @@
 ghost use Rattle.std.specs.Prelude.{◌≡◌, Some, ◌<◌, ◌-◌, ◌^◌, length};
 ghost use Rattle.fx_script.specs.Outcome.{Gives};
 ghost use Rattle.fx_script.specs.Next.{word_of};
-ghost use Rattle.fx_script.specs.Reading.{sound, head_in, taken, line_taken, at_line, reading};
+ghost use Rattle.fx_script.specs.Reading.{sound, keyword_placed, said_by, taken, line_taken, at_line, reading};
+ghost use Rattle.fx_script.specs.declared.keyword.Keyword.TheVariants as keyword;
 ghost use Rattle.fx_script.specs.Answers.{Advances, Proceeds, Answers};
 
 use crate::cursor::{Cursor, FoundWord};
 use crate::draft::{Draft, DuePart};
-use crate::head::{Head, read_head};
-use crate::keyword::keyword_of;
+use crate::head::{read_event, read_head};
+use crate::job::Event;
+use crate::keyword::{EventWord, Keyword, keyword_of};
 use crate::order::may_stand;
 use crate::refusal::{JobFault, ReadJob, Stop, Wrong};
 use fx_base::Spot;
@@ -103,7 +105,38 @@ fn take_met(
         line: number,
         column: first.column,
     };
-    let head = head_of(alloc, draft, spot, first, cursor)?;
+    match keyword_due(draft, first)? {
+        Keyword::Event(word) => take_event(draft, spot, word, cursor),
+        keyword => take_other(alloc, draft, spot, keyword, cursor),
+    }
+}
+
+// Takes an event: it goes straight into its list, since a schedule may have many.
+fn take_event(
+    draft: &mut Draft,
+    spot: Spot,
+    word: EventWord,
+    cursor: &mut Cursor,
+) -> Result<(), Stop>
+    ensures { Advances result draft.new (said_by draft.old (keyword.Event word) spot cursor.old) }
+{
+    let kind = read_event(word, cursor)?;
+    cursor.end()?;
+    draft.job.events.push(Event { spot, kind })?;
+    Ok(())
+}
+
+// Takes a line of any kind.
+fn take_other(
+    alloc: Global,
+    draft: &mut Draft,
+    spot: Spot,
+    keyword: Keyword,
+    cursor: &mut Cursor,
+) -> Result<(), Stop>
+    ensures { Advances result draft.new (said_by draft.old keyword spot cursor.old) }
+{
+    let head = read_head(alloc, keyword, spot, cursor)?;
     draft.take(alloc, spot, head)?;
     Ok(())
 }
@@ -130,15 +163,9 @@ fn see_sound(line: &[u8], ended: bool) -> Result<(), Wrong>
     }
 }
 
-// Reads what a line says whose first word was read.
-fn head_of(
-    alloc: Global,
-    draft: &Draft,
-    spot: Spot,
-    first: FoundWord,
-    cursor: &mut Cursor,
-) -> Result<Head, Stop>
-    ensures { Gives result (head_in draft.entry.now.due_part draft.entry.now.blocks spot (word_of first.entry) cursor.old) }
+// The keyword that a line begins with, if its first word is one that may stand here.
+fn keyword_due(draft: &Draft, first: FoundWord) -> Result<Keyword, Stop>
+    ensures { Gives result (keyword_placed draft.entry.now.due_part draft.entry.now.blocks (word_of first.entry)) }
 {
     if draft.due_part == DuePart::Stopped {
         return Err(Stop::Wrong(Wrong {
@@ -147,9 +174,7 @@ fn head_of(
         }));
     }
     match keyword_of(first.bytes) {
-        Some(keyword) if may_stand(draft.due_part, &draft.blocks, keyword) => {
-            read_head(alloc, keyword, spot, cursor)
-        }
+        Some(keyword) if may_stand(draft.due_part, &draft.blocks, keyword) => Ok(keyword),
         _ => Err(first.misfit()),
     }
 }

@@ -1,5 +1,5 @@
 -- Digits and the numbers that they spell.
-use Rattle.std.proofs.Common.{◌≡◌, ℕ, zero, suc, ◌+◌, ◌-◌, ◌*◌, ◌^◌, ◌<◌, ◌≤◌, min, true, false, not, ◌&&◌, ◌||◌, eqb, leb, ltb, List, [], ◌∷◌, length, take, get_or, Result, Ok, Err, refl, sym, ap, subst, ◌∙◌, arith, inl, inr}
+use Rattle.std.proofs.Common.{◌≡◌, ℕ, zero, suc, ◌+◌, ◌-◌, ◌*◌, ◌/◌, ◌%◌, ◌^◌, ◌<◌, ◌≤◌, min, true, false, not, ◌&&◌, ◌||◌, eqb, leb, ltb, List, [], ◌∷◌, ◌++◌, length, take, get_or, Result, Ok, Err, refl, sym, ap, subst, ◌∙◌, arith, inl, inr}
 use Rattle.std.specs.Prelude.{ℤ, pos, negsuc, neg_ℤ, int_lt, IfOk}
 use Rattle.std.specs.Fmt.{decimal, signed_decimal}
 use Rattle.std.specs.Int.{FitsUnsignedBits}
@@ -9,7 +9,7 @@ use mir.Val.{to_z, of_z, SFits}
 use Rattle.std.specs.List.{list_all}
 use Rattle.std.specs.Str.Parse.{digits_value}
 use Rattle.std.proofs.lemmas.Bool.{and_parts, and_from, cases_Bool, or_cases, or_right, not_from_false, eqb-true, eq-eqb, ne_eqb, leb-true, le-leb, ltb-true, ltb-false, lt-ltb}
-use Rattle.std.proofs.lemmas.Fmt.{decimal-digits_value, digits_decimal, digits_value-decimal, decimal_nonempty, decimal_digit, first_decimal}
+use Rattle.std.proofs.lemmas.Fmt.{decimal-digits_value, decimal_step, digits_decimal, digits_value-decimal, decimal_nonempty, decimal_digit, first_decimal}
 use Rattle.std.proofs.lemmas.Int.{to_z-of_z}
 use Rattle.std.proofs.lemmas.Int.Digits.{digits_value_more}
 use Rattle.std.proofs.lemmas.Str.{digit_value_digit}
@@ -187,3 +187,15 @@ plain_digit (negsuc n) low high = absurd cc
 pub digit_between : (z : ℤ) → SFits w64 z → int_lt (to_z w64 (of_z w64 z)) (pos 0) ≡ false → int_lt (pos 9) (to_z w64 (of_z w64 z)) ≡ false
     → (48 + nat_abs (to_z w64 (of_z w64 z))) ∷ [] ≡ signed_decimal z
 digit_between z fits low high = plain_digit (to_z w64 (of_z w64 z)) low high ∙ ap signed_decimal (to_z-of_z w64 z fits)
+
+plain_two : (z : ℤ) → int_lt z (pos 10) ≡ false → int_lt (pos 99) z ≡ false → (48 + nat_abs z / 10) ∷ (48 + nat_abs z % 10) ∷ [] ≡ signed_decimal z
+plain_two (pos n) low high =
+    let least : 10 ≤ n = ltb-false n 10 low in
+    let most : n ≤ 99 = ltb-false 99 n high in
+    sym (decimal_step n least (omega arith) ∙ ap (λ (l : List ℕ). l ++ (48 + n % 10) ∷ []) (decimal_digit (n / 10) (omega arith)))
+plain_two (negsuc n) low high = absurd cc
+
+-- a number that is not below 10 and not above 99 is written as two digits
+pub two_digits_between : (z : ℤ) → SFits w64 z → int_lt (to_z w64 (of_z w64 z)) (pos 10) ≡ false → int_lt (pos 99) (to_z w64 (of_z w64 z)) ≡ false
+    → (48 + nat_abs (to_z w64 (of_z w64 z)) / 10) ∷ (48 + nat_abs (to_z w64 (of_z w64 z)) % 10) ∷ [] ≡ signed_decimal z
+two_digits_between z fits low high = plain_two (to_z w64 (of_z w64 z)) low high ∙ ap signed_decimal (to_z-of_z w64 z fits)
