@@ -1,0 +1,1 @@
+//! Laws of runs with any events, kills and notices among them.
