@@ -1,2 +1,15 @@
 pub mod Texts
 pub mod Eras
+pub mod Shows
+pub mod Moves
+pub mod Actions
+pub mod Votes
+pub mod Decides
+pub mod Events
+pub mod Readings
+pub mod Truths
+pub mod Standing
+pub mod Places
+pub mod Finals
+pub mod Linked
+pub mod Closings
