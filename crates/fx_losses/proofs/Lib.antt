@@ -3,13 +3,6 @@ pub mod Eras
 pub mod Shows
 pub mod Moves
 pub mod Actions
+pub mod Turns
+pub mod Turning
 pub mod Votes
-pub mod Decides
-pub mod Events
-pub mod Readings
-pub mod Truths
-pub mod Standing
-pub mod Places
-pub mod Finals
-pub mod Linked
-pub mod Closings

@@ -112,7 +112,7 @@ pub record Deems (s : Setup) (p : ℕ) (act : Act) (w : World) (z : ℕ → ball
   pub over : has_ended act.node ≡ true → EndedAs fate act.node
   pub role : (d : ℕ) (x : Era) → act.node.epoch ≡ suc d → era (first_era s) fate d ≡ Some x → act.node.role ≡ role_after d (has_place x.comm p)
 
-some_era : (x y : Era) → Some x ≡ Some y → x ≡ y
+pub some_era : (x y : Era) → Some x ≡ Some y → x ≡ y
 some_era x y e = cc
 
 pub shows_step : (s : Setup) (p : ℕ) (act : Act) (said : List Text) (to : ℕ → Bool) (w : World) (z : ℕ → ballot.World) (old fate : ℕ → Option (List Slot)) (y : ballot.World) → up s w p ≡ true

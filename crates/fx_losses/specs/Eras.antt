@@ -1,5 +1,5 @@
 -- What an epoch begins with, as the decisions of the ballots before it give it.
-use Rattle.std.specs.Prelude.{◌≡◌, ℕ, zero, suc, Bool, ◌&&◌, if◌then◌else◌, nat_lt, List, [], ◌∷◌, get_or, Option, Some, None, refl}
+use Rattle.std.specs.Prelude.{◌≡◌, ℕ, zero, suc, Bool, true, ◌&&◌, if◌then◌else◌, nat_lt, List, [], ◌∷◌, get_or, Option, Some, None, refl}
 use Rattle.std.specs.List.{list_all}
 use Rattle.fx_base.specs.Sets.{those_below}
 use Rattle.fx_ballot.specs.Names.{seat_of, has}
