@@ -6,3 +6,12 @@ pub mod Actions
 pub mod Turns
 pub mod Turning
 pub mod Votes
+pub mod Decides
+pub mod Events
+pub mod Readings
+pub mod Truths
+pub mod Standing
+pub mod Places
+pub mod Finals
+pub mod Notices
+pub mod Losses

@@ -1,6 +1,7 @@
 -- A decision: an epoch is born, or a node ends.
 use Rattle.std.proofs.Common.{◌≡◌, ℕ, ◌<◌, ◌≢◌, ◌==◌, zero, suc, Bool, true, false, cond, List, [], length, Option, Some, None, inl, inr, arith, refl, subst, sym, ◌∙◌, ap}
 use Rattle.std.specs.Prelude.{if◌then◌else◌, not}
+use Rattle.std.proofs.lemmas.Bool.Decides.{nat_tests}
 use Rattle.std.proofs.lemmas.Bool.{cases_eq, cond-false}
 use Rattle.fx_base.specs.declared.names.Role.{Role}
 use Rattle.fx_base.specs.declared.names.Role.TheVariants as role
@@ -20,7 +21,8 @@ use Rattle.fx_machine.specs.Reading.{is_join}
 use Rattle.fx_machine.specs.Setup.{Setup}
 use Rattle.fx_fleet.specs.World.{World, up}
 use Rattle.fx_losses.specs.Eras.{Era, first_era, era_of, is_last, next_of, next_era, era}
-use Rattle.fx_losses.proofs.Actions.{member, fits_other, fits_next, acted_writes, owes_later, after_turn, shown_turn, old_phase, undecided, kept_after, shape_here, after_vote, after_other, after_phase, after_living, after_gone, ballot_move, none_to, put_own}
+use Rattle.fx_losses.proofs.Actions.{member, fits_other, fits_next, acted_writes, owes_later}
+use Rattle.fx_losses.proofs.Turns.{after_turn, shown_turn, undecided, kept_after, shape_here, after_vote, after_other, after_phase, after_living, after_gone, ballot_move, none_to, put_own}
 use Rattle.fx_losses.proofs.Eras.{era_grows, era_before}
 use Rattle.fx_losses.proofs.Moves.{Steps, Deems, some_era}
 use Rattle.fx_losses.proofs.Shows.{phase_of, is_begin, is_later, is_placed, is_decided, Fits, At, Owes, Sane, EndedAs, role_after, Shows, up_parts}
@@ -35,6 +37,9 @@ same_not d l = omega (arith, l)
 
 below_not : (d : ℕ) → suc d < d → ⊥
 below_not d l = omega (arith, l)
+
+apart_zero : (e : ℕ) → (suc e == 0) ≡ false
+apart_zero e = grind (arith, nat_tests)
 
 next_not : (d : ℕ) → suc d ≡ d → ⊥
 next_not d l = omega (arith, l)
@@ -205,7 +210,7 @@ module _ (s : Setup) (w : World) (z : ℕ → ballot.World) (fate : ℕ → Opti
 
   named_behind : (e : ℕ) (had : Bool) → (if e == 0 then role.Initial else (if had then role.Survivor else role.Recovered)) ≡ role_after e had
   named_behind zero had = refl
-  named_behind (suc e) had = refl
+  named_behind (suc e) had = ap (λ (b : Bool). if b then role.Initial else (if had then role.Survivor else role.Recovered)) (apart_zero e)
 
   pub next_deems : is_last (w.node p).epoch (era_of (w.node p)) slots ≡ false → Deems s p (repairs s next_node) w z fate sealed (after_turn w z p (record { phase = phase; poll = poll.Decided slots }))
   next_deems goes =

@@ -22,10 +22,11 @@ use Rattle.fx_machine.specs.Texts.{Text}
 use Rattle.fx_fleet.specs.World.{World, up}
 use Rattle.fx_calm.proofs.Lists.{Each}
 use Rattle.fx_losses.specs.Eras.{Era, first_era, era_of, era}
-use Rattle.fx_losses.proofs.Actions.{shown_turn, kept_here}
+use Rattle.fx_losses.proofs.Actions.{kept_here}
 use Rattle.fx_losses.proofs.Moves.{some_era}
 use Rattle.fx_losses.proofs.Shows.{At, Owes, Sane, Shows, IsVote, Spoke, IsEstimate, IsTrue, Truthful, up_parts}
 use Rattle.fx_losses.proofs.Texts.{text_in, with_front, of_epoch, heard_of, knowing, shown}
+use Rattle.fx_losses.proofs.Turns.{shown_turn}
 use Rattle.fx_losses.proofs.Votes.{Slotted, alive_slot}
 
 -- ---- what is heard, read text by text
@@ -40,20 +41,20 @@ vote_heard e [] h = nothing h.vote
     nothing : (o : Option Slot) → o ≡ option_or o None
     nothing None = refl
     nothing (Some x) = refl
-vote_heard e (text.Join d x ∷ ts) h = of (d == e)
+vote_heard e (text.Join d x ∷ ts) h = of (λ g. vote_heard e ts g) (d == e)
   where
     first : (o : Option Slot) → option_or (earliest o x) (first_read (vote_in (OfEpoch e)) ts) ≡ option_or o (option_or (Some x) (first_read (vote_in (OfEpoch e)) ts))
     first None = refl
     first (Some y) = refl
 
-    of : (b : Bool) → (heard_of (with_front (given_that b (Vote x)) (of_epoch e ts)) h).vote ≡ option_or h.vote (option_or (given_that b x) (first_read (vote_in (OfEpoch e)) ts))
-    of true = vote_heard e ts (hear (Vote x) h) ∙ first h.vote
-    of false = vote_heard e ts h
-vote_heard e (text.Jest d r slots ∷ ts) h = of (d == e)
+    of : ((g : Heard) → (heard_of (of_epoch e ts) g).vote ≡ option_or g.vote (first_read (vote_in (OfEpoch e)) ts)) → (b : Bool) → (heard_of (with_front (given_that b (Vote x)) (of_epoch e ts)) h).vote ≡ option_or h.vote (option_or (given_that b x) (first_read (vote_in (OfEpoch e)) ts))
+    of later true = later (hear (Vote x) h) ∙ first h.vote
+    of later false = later h
+vote_heard e (text.Jest d r slots ∷ ts) h = of (λ g. vote_heard e ts g) (d == e)
   where
-    of : (b : Bool) → (heard_of (with_front (given_that b (Estimate r slots)) (of_epoch e ts)) h).vote ≡ option_or h.vote (first_read (vote_in (OfEpoch e)) ts)
-    of true = vote_heard e ts (hear (Estimate r slots) h)
-    of false = vote_heard e ts h
+    of : ((g : Heard) → (heard_of (of_epoch e ts) g).vote ≡ option_or g.vote (first_read (vote_in (OfEpoch e)) ts)) → (b : Bool) → (heard_of (with_front (given_that b (Estimate r slots)) (of_epoch e ts)) h).vote ≡ option_or h.vote (first_read (vote_in (OfEpoch e)) ts)
+    of later true = later (hear (Estimate r slots) h)
+    of later false = later h
 vote_heard e (text.Part d k values ∷ ts) h = vote_heard e ts h
 vote_heard e (text.Vote d k x ∷ ts) h = vote_heard e ts h
 vote_heard e (text.Est d k r slots ∷ ts) h = vote_heard e ts h
@@ -68,20 +69,20 @@ estimate_heard e [] h = nothing h.estimate
     nothing : (o : Option (List Slot)) → o ≡ option_or o None
     nothing None = refl
     nothing (Some x) = refl
-estimate_heard e (text.Jest d r slots ∷ ts) h = of (d == e)
+estimate_heard e (text.Jest d r slots ∷ ts) h = of (λ g. estimate_heard e ts g) (d == e)
   where
     first : (o : Option (List Slot)) → option_or (earliest o slots) (first_read (estimate_at e) ts) ≡ option_or o (option_or (Some slots) (first_read (estimate_at e) ts))
     first None = refl
     first (Some y) = refl
 
-    of : (b : Bool) → (heard_of (with_front (given_that b (Estimate r slots)) (of_epoch e ts)) h).estimate ≡ option_or h.estimate (option_or (given_that b slots) (first_read (estimate_at e) ts))
-    of true = estimate_heard e ts (hear (Estimate r slots) h) ∙ first h.estimate
-    of false = estimate_heard e ts h
-estimate_heard e (text.Join d x ∷ ts) h = of (d == e)
+    of : ((g : Heard) → (heard_of (of_epoch e ts) g).estimate ≡ option_or g.estimate (first_read (estimate_at e) ts)) → (b : Bool) → (heard_of (with_front (given_that b (Estimate r slots)) (of_epoch e ts)) h).estimate ≡ option_or h.estimate (option_or (given_that b slots) (first_read (estimate_at e) ts))
+    of later true = later (hear (Estimate r slots) h) ∙ first h.estimate
+    of later false = later h
+estimate_heard e (text.Join d x ∷ ts) h = of (λ g. estimate_heard e ts g) (d == e)
   where
-    of : (b : Bool) → (heard_of (with_front (given_that b (Vote x)) (of_epoch e ts)) h).estimate ≡ option_or h.estimate (first_read (estimate_at e) ts)
-    of true = estimate_heard e ts (hear (Vote x) h)
-    of false = estimate_heard e ts h
+    of : ((g : Heard) → (heard_of (of_epoch e ts) g).estimate ≡ option_or g.estimate (first_read (estimate_at e) ts)) → (b : Bool) → (heard_of (with_front (given_that b (Vote x)) (of_epoch e ts)) h).estimate ≡ option_or h.estimate (first_read (estimate_at e) ts)
+    of later true = later (hear (Vote x) h)
+    of later false = later h
 estimate_heard e (text.Part d k values ∷ ts) h = estimate_heard e ts h
 estimate_heard e (text.Vote d k x ∷ ts) h = estimate_heard e ts h
 estimate_heard e (text.Est d k r slots ∷ ts) h = estimate_heard e ts h
@@ -93,16 +94,16 @@ estimate_heard e (text.Give d k packed ∷ ts) h = estimate_heard e ts h
 -- no text of a ballot at the begin of an epoch tells of losses or leavings
 lost_heard : (e : ℕ) (ts : List Text) (h : Heard) → ((heard_of (of_epoch e ts) h).lost ≡ h.lost) × ((heard_of (of_epoch e ts) h).left ≡ h.left)
 lost_heard e [] h = (refl, refl)
-lost_heard e (text.Join d x ∷ ts) h = of (d == e)
+lost_heard e (text.Join d x ∷ ts) h = of (λ g. lost_heard e ts g) (d == e)
   where
-    of : (b : Bool) → ((heard_of (with_front (given_that b (Vote x)) (of_epoch e ts)) h).lost ≡ h.lost) × ((heard_of (with_front (given_that b (Vote x)) (of_epoch e ts)) h).left ≡ h.left)
-    of true = lost_heard e ts (hear (Vote x) h)
-    of false = lost_heard e ts h
-lost_heard e (text.Jest d r slots ∷ ts) h = of (d == e)
+    of : ((g : Heard) → ((heard_of (of_epoch e ts) g).lost ≡ g.lost) × ((heard_of (of_epoch e ts) g).left ≡ g.left)) → (b : Bool) → ((heard_of (with_front (given_that b (Vote x)) (of_epoch e ts)) h).lost ≡ h.lost) × ((heard_of (with_front (given_that b (Vote x)) (of_epoch e ts)) h).left ≡ h.left)
+    of later true = later (hear (Vote x) h)
+    of later false = later h
+lost_heard e (text.Jest d r slots ∷ ts) h = of (λ g. lost_heard e ts g) (d == e)
   where
-    of : (b : Bool) → ((heard_of (with_front (given_that b (Estimate r slots)) (of_epoch e ts)) h).lost ≡ h.lost) × ((heard_of (with_front (given_that b (Estimate r slots)) (of_epoch e ts)) h).left ≡ h.left)
-    of true = lost_heard e ts (hear (Estimate r slots) h)
-    of false = lost_heard e ts h
+    of : ((g : Heard) → ((heard_of (of_epoch e ts) g).lost ≡ g.lost) × ((heard_of (of_epoch e ts) g).left ≡ g.left)) → (b : Bool) → ((heard_of (with_front (given_that b (Estimate r slots)) (of_epoch e ts)) h).lost ≡ h.lost) × ((heard_of (with_front (given_that b (Estimate r slots)) (of_epoch e ts)) h).left ≡ h.left)
+    of later true = later (hear (Estimate r slots) h)
+    of later false = later h
 lost_heard e (text.Part d k values ∷ ts) h = lost_heard e ts h
 lost_heard e (text.Vote d k x ∷ ts) h = lost_heard e ts h
 lost_heard e (text.Est d k r slots ∷ ts) h = lost_heard e ts h

@@ -36,15 +36,15 @@ final_got (x ∷ xs) (suc k) e = let r = final_got xs k e in let l : k < length 
 
 in_list : (who : List ℕ) (q : ℕ) → seat_of who q < length who → has who q ≡ true
 in_list [] q l = absurd (omega (arith, l))
-in_list (x ∷ xs) q l = of (x == q) l
+in_list (x ∷ xs) q l = of (in_list xs q) (x == q) l
   where
-    of : (b : Bool) → (if b then 0 else suc (seat_of xs q)) < suc (length xs) → (b || has xs q) ≡ true
-    of true m = refl
-    of false m = in_list xs q (let n : suc (seat_of xs q) < suc (length xs) = m in omega (arith, n))
+    of : (seat_of xs q < length xs → has xs q ≡ true) → (b : Bool) → (if b then 0 else suc (seat_of xs q)) < suc (length xs) → (b || has xs q) ≡ true
+    of later true m = refl
+    of later false m = later (let n : suc (seat_of xs q) < suc (length xs) = m in omega (arith, n))
 
 seated_passes : (test : ℕ → Bool) (seats : List Seat) (q : ℕ) → list_all test (procs_of seats) ≡ true → has_place seats q ≡ true → test q ≡ true
 seated_passes test [] q all e = absurd (let bad : false ≡ true = e in cc)
-seated_passes test (s ∷ seats) q all e = of (s.1.0 == q) refl e
+seated_passes test (s ∷ seats) q all e = of (seated_passes test seats q) (s.1.0 == q) refl e
   where
     equal : (a b : ℕ) → (a == b) ≡ true → a ≡ b
     equal a b e = grind (arith, nat_tests)
@@ -55,9 +55,9 @@ seated_passes test (s ∷ seats) q all e = of (s.1.0 == q) refl e
     second : (a b : Bool) → (a && b) ≡ true → b ≡ true
     second a b e = grind (arith, nat_tests)
 
-    of : (b : Bool) → (s.1.0 == q) ≡ b → (b || has_place seats q) ≡ true → test q ≡ true
-    of true same h = ap test (sym (equal s.1.0 q same)) ∙ first (test s.1.0) (list_all test (procs_of seats)) all
-    of false same h = seated_passes test seats q (second (test s.1.0) (list_all test (procs_of seats)) all) h
+    of : (list_all test (procs_of seats) ≡ true → has_place seats q ≡ true → test q ≡ true) → (b : Bool) → (s.1.0 == q) ≡ b → (b || has_place seats q) ≡ true → test q ≡ true
+    of later true same h = ap test (sym (equal s.1.0 q same)) ∙ first (test s.1.0) (list_all test (procs_of seats)) all
+    of later false same h = later (second (test s.1.0) (list_all test (procs_of seats)) all) h
 
 -- where all that have a place have the slot `final`, each of them has voted so
 pub all_final_voted : (who : List ℕ) (seats : List Seat) (slots : List Slot) (z : ballot.World) (q : ℕ) → TrueSlots (length who) (seat_at who) z slots
@@ -75,7 +75,7 @@ all_final_voted who seats slots z q t all place =
 -- where not all have it, one doesn't
 pub one_not_final : (test : ℕ → Bool) (seats : List Seat) → list_all test (procs_of seats) ≡ false → (q : ℕ) × (has_place seats q ≡ true) × (test q ≡ false)
 one_not_final test [] e = absurd (let bad : true ≡ false = e in cc)
-one_not_final test (s ∷ seats) e = of (test s.1.0) refl e
+one_not_final test (s ∷ seats) e = of (one_not_final test seats) (test s.1.0) refl e
   where
     this : (a : ℕ) (b : Bool) → ((a == a) || b) ≡ true
     this a b = grind (arith, nat_tests)
@@ -83,6 +83,6 @@ one_not_final test (s ∷ seats) e = of (test s.1.0) refl e
     later : (a b : Bool) → b ≡ true → (a || b) ≡ true
     later a b e = grind (arith, nat_tests)
 
-    of : (b : Bool) → test s.1.0 ≡ b → (b && list_all test (procs_of seats)) ≡ false → (q : ℕ) × (has_place (s ∷ seats) q ≡ true) × (test q ≡ false)
-    of true is h = let r = one_not_final test seats h in (r.0, later (s.1.0 == r.0) (has_place seats r.0) r.1, r.2)
-    of false is h = (s.1.0, this s.1.0 (has_place seats s.1.0), is)
+    of : (list_all test (procs_of seats) ≡ false → (q : ℕ) × (has_place seats q ≡ true) × (test q ≡ false)) → (b : Bool) → test s.1.0 ≡ b → (b && list_all test (procs_of seats)) ≡ false → (q : ℕ) × (has_place (s ∷ seats) q ≡ true) × (test q ≡ false)
+    of rest true is h = let r = rest h in (r.0, later (s.1.0 == r.0) (has_place seats r.0) r.1, r.2)
+    of rest false is h = (s.1.0, this s.1.0 (has_place seats s.1.0), is)

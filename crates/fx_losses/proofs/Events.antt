@@ -1,4 +1,4 @@
--- Deliveries, notices and losses keep what the world shows.
+-- Deliveries keep what the world shows.
 use Rattle.std.proofs.Common.{◌≡◌, ℕ, ◌<◌, ◌≢◌, ◌==◌, zero, suc, Bool, true, false, cond, ◌&&◌, List, [], ◌∷◌, ◌++◌, length, Option, Some, None, ◌⊎◌, inl, inr, arith, refl, subst, sym, ◌∙◌, ap}
 use Rattle.std.specs.Prelude.{if◌then◌else◌, not, nat_lt}
 use Rattle.std.proofs.lemmas.Bool.Decides.{nat_tests}
@@ -84,26 +84,26 @@ pair_or a b c q = elim (cases_eq c a) [
 pair_same : (a b c q : ℕ) → ((c == a) && (q == b)) ≡ true → (c ≡ a) × (q ≡ b)
 pair_same a b c q e = (grind (arith, nat_tests), grind (arith, nat_tests))
 
-not_pair : {X : Type 0} (a b c q : ℕ) (x y : X) → ((c ≡ a) × (q ≡ b) → ⊥) → (if (c == a) && (q == b) then x else y) ≡ y
+pub not_pair : {X : Type 0} (a b c q : ℕ) (x y : X) → ((c ≡ a) × (q ≡ b) → ⊥) → (if (c == a) && (q == b) then x else y) ≡ y
 not_pair {X} a b c q x y ne = both ((c == a) && (q == b)) refl
   where
     both : (t : Bool) → ((c == a) && (q == b)) ≡ t → (if t then x else y) ≡ y
     both true e = absurd (ne (pair_same a b c q e))
     both false e = refl
 
-is_pair : {X : Type 0} (a b : ℕ) (x y : X) → (if (a == a) && (b == b) then x else y) ≡ x
+pub is_pair : {X : Type 0} (a b : ℕ) (x y : X) → (if (a == a) && (b == b) then x else y) ≡ x
 is_pair a b x y = grind (arith, nat_tests)
 
 -- ---- one ballot, where b hears of a or is told of it
 
-record Changed (a b : ℕ) (z y : ballot.World) : Type 0 where
+pub record Changed (a b : ℕ) (z y : ballot.World) : Type 0 where
   pub phase : (q : ℕ) → (y.member q).phase ≡ (z.member q).phase
   pub living : (q : ℕ) → (y.member q).living ≡ (z.member q).living
   pub gone : (q : ℕ) → (y.member q).gone ≡ (z.member q).gone
   pub heard : (q c : ℕ) → ((c ≡ a) × (q ≡ b) → ⊥) → (y.member q).heard c ≡ (z.member q).heard c
   pub link : (c q : ℕ) → ((c ≡ a) × (q ≡ b) → ⊥) → y.link c q ≡ z.link c q
 
-at_changed : (s : Setup) (d a b : ℕ) (w v : World) (z y : ballot.World) → Alike b w v → Changed a b z y → ((c : ℕ) → c ≢ a → shown (suc d) (v.node b) c ≡ shown (suc d) (w.node b) c)
+pub at_changed : (s : Setup) (d a b : ℕ) (w v : World) (z y : ballot.World) → Alike b w v → Changed a b z y → ((c : ℕ) → c ≢ a → shown (suc d) (v.node b) c ≡ shown (suc d) (w.node b) c)
     → ((c q : ℕ) → ((c ≡ a) × (q ≡ b) → ⊥) → v.link c q ≡ w.link c q) → (up s w b ≡ true → (y.member b).heard a ≡ shown (suc d) (v.node b) a)
     → (a ≢ b → up s w b ≡ true → y.link a b ≡ of_epoch (suc d) (v.link a b)) → At s d w z → At s d v y
 at_changed s d a b w v z y al ch far links this_heard this_link h = record {
@@ -131,7 +131,7 @@ changed_none : (a b : ℕ) (z : ballot.World) → Changed a b z z
 changed_none a b z = record { phase = λ q. refl; living = λ q. refl; gone = λ q. refl; heard = λ q c ne. refl; link = λ c q ne. refl }
 
 -- what is kept of one ballot, under any names
-owes_same : (d : ℕ) (x : Option Era) (f : Option (List Slot)) (z y : ballot.World) → ((q : ℕ) → (y.member q).phase ≡ (z.member q).phase) → ((q : ℕ) → vote_of y q ≡ vote_of z q)
+pub owes_same : (d : ℕ) (x : Option Era) (f : Option (List Slot)) (z y : ballot.World) → ((q : ℕ) → (y.member q).phase ≡ (z.member q).phase) → ((q : ℕ) → vote_of y q ≡ vote_of z q)
     → ((n : ℕ) (name : ℕ → ℕ) → Kept n name z → Kept n name y) → (Blank z → Blank y) → Owes d x f z → Owes d x f y
 owes_same d x f z y ph vo b bl h = record {
   kept = λ a e. b (length a.who) (seat_at a.who) (h.kept a e);
@@ -142,7 +142,7 @@ owes_same d x f z y ph vo b bl h = record {
 }
 
 -- the world where b alone changed, and stands where it stood, shows what it showed
-alike_shows : (s : Setup) (b : ℕ) (w v : World) (z y : ℕ → ballot.World) (fate : ℕ → Option (List Slot)) → Alike b w v → ((d : ℕ) → At s d v (y d))
+pub alike_shows : (s : Setup) (b : ℕ) (w v : World) (z y : ℕ → ballot.World) (fate : ℕ → Option (List Slot)) → Alike b w v → ((d : ℕ) → At s d v (y d))
     → ((d : ℕ) → Owes d (era (first_era s) fate d) (fate d) (y d)) → ((q c : ℕ) → (v.node q).lost c ≡ true → w.killed c ≡ true) → Shows s w z fate → Shows s v y fate
 alike_shows s b w v z y fate al at owes told h = record {
   at = at;
@@ -307,178 +307,3 @@ module _ (s : Setup) (a b : ℕ) (t : Text) (rest : List Text) (w : World) (z : 
         (λ d. at_changed s d a b w v (z d) (z d) alike_delivers (changed_none a b (z d)) (λ c o. shown_still (suc d) c) links_now
         (λ x. (h.at d).heard b a u ∙ sym (shown_still (suc d) a)) (λ x y. absurd (x same)) (h.at d))
         (λ d. h.owes d) told_now h
-
--- ---- a notice
-
-changed_tells : (a b : ℕ) (z : ballot.World) → Changed a b z (tells a b z)
-changed_tells a b z = record {
-  phase = λ q. grind (arith, nat_tests);
-  living = λ q. grind (arith, nat_tests);
-  gone = λ q. grind (arith, nat_tests);
-  heard = λ q c ne. other q c ne;
-  link = λ c q ne. not_pair a b c q [] (z.link c q) ne;
-}
-  where
-    mine : (c : ℕ) → c ≢ a → ((tells a b z).member b).heard c ≡ (z.member b).heard c
-    mine c ne = grind (arith, nat_tests)
-
-    elsewhere : (q c : ℕ) → q ≢ b → ((tells a b z).member q).heard c ≡ (z.member q).heard c
-    elsewhere q c ne = grind (arith, nat_tests)
-
-    other : (q c : ℕ) → ((c ≡ a) × (q ≡ b) → ⊥) → ((tells a b z).member q).heard c ≡ (z.member q).heard c
-    other q c ne = elim (cases_eq q b) [
-      | inl s ↦ subst (λ o. ((tells a b z).member o).heard c ≡ (z.member o).heard c) (sym s) (mine c (λ e. ne (e, s)))
-      | inr o ↦ elsewhere q c o
-    ]
-
-told_heard : (a b : ℕ) (z : ballot.World) → ((tells a b z).member b).heard a ≡ learn_loss ((z.member b).heard a)
-told_heard a b z = grind (arith, nat_tests)
-
-pub tells_vote : (a b : ℕ) (z : ballot.World) (q : ℕ) → vote_of (tells a b z) q ≡ vote_of z q
-tells_vote a b z q = grind (arith, nat_tests)
-
-pub tells_estimate : (a b : ℕ) (z : ballot.World) (q : ℕ) → estimate_of (tells a b z) q ≡ estimate_of z q
-tells_estimate a b z q = grind (arith, nat_tests)
-
-module _ (s : Setup) (a b : ℕ) (w : World) (z : ℕ → ballot.World) (fate : ℕ → Option (List Slot)) (dead : w.killed a ≡ true) (h : Shows s w z fate) where
-  abbrev v : World
-  v = learns a b w
-
-  node_now : v.node b ≡ is_told a (w.node b)
-  node_now = put_same w.node b (is_told a (w.node b))
-
-  pub alike_learns : Alike b w (learns a b w)
-  alike_learns = record {
-    mine = subst (λ n. Stands (w.node b) n) (sym node_now) (record { me = refl; epoch = refl; era = refl; role = refl; stage = refl });
-    other = λ q o. put_other w.node b q (is_told a (w.node b)) o;
-    killed = λ q. refl;
-  }
-
-  shown_told : (e : ℕ) → shown e (v.node b) a ≡ learn_loss (shown e (w.node b) a)
-  shown_told e =
-      ap (λ (n : Node). shown e n a) node_now ∙ ap (λ (t : Bool). heard_of (of_epoch e ((w.node b).texts a)) (knowing t)) (put_same (w.node b).lost a true)
-      ∙ lost_later (of_epoch e ((w.node b).texts a)) (knowing ((w.node b).lost a))
-
-  shown_untold : (e c : ℕ) → c ≢ a → shown e (v.node b) c ≡ shown e (w.node b) c
-  shown_untold e c ne = ap (λ (n : Node). shown e n c) node_now ∙ ap (λ (t : Bool). heard_of (of_epoch e ((w.node b).texts c)) (knowing t)) (put_other (w.node b).lost a c true ne)
-
-  told_before : (q c : ℕ) → c ≢ a → (v.node q).lost c ≡ (w.node q).lost c
-  told_before q c ne = elim (cases_eq q b) [
-    | inl same ↦ subst (λ o. (v.node o).lost c ≡ (w.node o).lost c) (sym same) (ap (λ (n : Node). n.lost c) node_now ∙ put_other (w.node b).lost a c true ne)
-    | inr o ↦ ap (λ (n : Node). n.lost c) (put_other w.node b q (is_told a (w.node b)) o)
-  ]
-
-  pub notice_shows : Shows s (learns a b w) (λ d. tells a b (z d)) fate
-  notice_shows =
-      alike_shows s b w v z (λ d. tells a b (z d)) fate alike_learns
-      (λ d. at_changed s d a b w v (z d) (tells a b (z d)) alike_learns (changed_tells a b (z d)) (λ c o. shown_untold (suc d) c o) (λ c q o. not_pair a b c q [] (w.link c q) o)
-      (λ u. told_heard a b (z d) ∙ ap (λ (x : Heard). learn_loss x) ((h.at d).heard b a u) ∙ sym (shown_told (suc d)))
-      (λ x u. is_pair a b [] ((z d).link a b) ∙ ap (of_epoch (suc d)) (sym (is_pair a b [] (w.link a b)))) (h.at d))
-      (λ d. owes_same d (era (first_era s) fate d) (fate d) (z d) (tells a b (z d)) (changed_tells a b (z d)).phase (tells_vote a b (z d))
-      (λ n name k. record { sound = sound_tell n name a b (z d) ((h.at d).living a ∙ ap not dead) k.sound; caught = caught_tell (among n name) a b (z d) k.caught })
-      (blank_tell a b (z d) ((h.at d).living a ∙ ap not dead)) (h.owes d))
-      (λ q c e. elim (cases_eq c a) [
-        | inl same ↦ subst (λ o. w.killed o ≡ true) (sym same) dead
-        | inr o ↦ h.told q c (sym (told_before q c o) ∙ e)
-      ]) h
-
--- ---- a loss
-
-pub slain_not : (p q : ℕ) (k : ℕ → Bool) → put k p true q ≡ false → (q ≢ p) × (k q ≡ false)
-slain_not p q k e = elim (cases_eq q p) [
-  | inl same ↦ absurd (let bad : true ≡ false = sym (put_same k p true) ∙ ap (put k p true) (sym same) ∙ e in cc)
-  | inr ne ↦ (ne, sym (put_other k p q true ne) ∙ e)
-]
-
-kills_phase : (p q : ℕ) (z : ballot.World) → ((kills p z).member q).phase ≡ (z.member q).phase
-kills_phase p q z = grind (arith, nat_tests)
-
-pub kills_heard : (p q c : ℕ) (z : ballot.World) → ((kills p z).member q).heard c ≡ (z.member q).heard c
-kills_heard p q c z = grind (arith, nat_tests)
-
-kills_gone : (p q : ℕ) (z : ballot.World) → ((kills p z).member q).gone ≡ (z.member q).gone
-kills_gone p q z = grind (arith, nat_tests)
-
-module _ (s : Setup) (p : ℕ) (w : World) (z : ℕ → ballot.World) (fate : ℕ → Option (List Slot)) (h : Shows s w z fate) where
-  abbrev v : World
-  v = loses s p w
-
-  pub loses_others : (q : ℕ) → q ≢ p → (loses s p w).node q ≡ w.node q
-  loses_others q ne = put_other w.node p q (first_node s p) ne
-
-  -- of those that live the same holds
-  survivors : (P : ℕ → Node → Type 0) → (q : ℕ) → v.killed q ≡ false → (w.killed q ≡ false → P q (w.node q)) → P q (v.node q)
-  survivors P q k is = let n = slain_not p q w.killed k in subst (P q) (sym (loses_others q n.0)) (is n.1)
-
-  pub up_survivor : (q : ℕ) → up s (loses s p w) q ≡ true → (q ≢ p) × (up s w q ≡ true)
-  up_survivor q u =
-      let parts = up_parts s v q u in
-      let n = slain_not p q w.killed parts.1 in
-      (n.0, sym (ap (λ (k : Bool). nat_lt q s.procs && (not k && not (has_ended (v.node q)))) (put_other w.killed p q true n.0)
-      ∙ ap (λ (x : Node). nat_lt q s.procs && (not (w.killed q) && not (has_ended x))) (loses_others q n.0)) ∙ u)
-
-  far : (a b : ℕ) → b ≢ p → v.link a b ≡ w.link a b
-  far a b ne = grind (arith, nat_tests)
-
-  grown : (c : ℕ) → w.killed c ≡ true → put w.killed p true c ≡ true
-  grown c e = grind (arith, nat_tests)
-
-  pub loss_shows : Shows s (loses s p w) (λ d. kills p (z d)) fate
-  loss_shows = record {
-    at = λ d. record {
-      fits = λ q k. survivors (λ o n. Fits d n ((kills p (z d)).member o).phase) q k (λ l. subst (λ ph. Fits d (w.node q) ph) (sym (kills_phase p q (z d))) ((h.at d).fits q l));
-      heard = λ q c u. let b = up_survivor q u in kills_heard p q c (z d) ∙ (h.at d).heard q c b.1 ∙ ap (λ (n : Node). shown (suc d) n c) (sym (loses_others q b.0));
-      link = λ a b ne u. let o = up_survivor b u in (h.at d).link a b ne o.1 ∙ ap (of_epoch (suc d)) (sym (far a b o.0));
-      living = λ q. elim (cases_eq q p) [
-        | inl same ↦ subst (λ o. ((kills p (z d)).member o).living ≡ not (put w.killed p true o)) (sym same)
-            (ap (λ (x : Member). x.living) (put_same (z d).member p (record ((z d).member p) { living = false })) ∙ ap not (sym (put_same w.killed p true)))
-        | inr ne ↦ ap (λ (x : Member). x.living) (put_other (z d).member p q (record ((z d).member p) { living = false }) ne) ∙ (h.at d).living q ∙ ap not (sym (put_other w.killed p q true ne))
-      ];
-      gone = λ q. kills_gone p q (z d) ∙ (h.at d).gone q;
-    };
-    owes = λ d. owes_same d (era (first_era s) fate d) (fate d) (z d) (kills p (z d)) (λ q. kills_phase p q (z d)) (λ q. ap (λ (x : Heard). x.vote) (kills_heard p q q (z d)))
-        (λ n name k. record { sound = sound_kill n name p (z d) k.sound; caught = caught_kill (among n name) p (z d) k.caught }) (blank_kill p (z d)) (h.owes d);
-    here = λ q k. survivors (λ o n. era (first_era s) fate n.epoch ≡ Some (era_of n)) q k (h.here q);
-    role = λ q d x k e i. survivors (λ o n. n.epoch ≡ suc d → n.role ≡ role_after d (has_place x.comm o)) q k (λ l a. h.role q d x l a i) e;
-    sane = λ q k. survivors (λ o n. Sane s o n) q k (h.sane q);
-    over = λ q k. survivors (λ o n. has_ended n ≡ true → EndedAs fate n) q k (h.over q);
-    told = λ q c e. grown c (elim (cases_eq q p) [
-      | inl same ↦ absurd (let bad : false ≡ true = sym (ap (λ (n : Node). n.lost c) (put_same w.node p (first_node s p))) ∙ subst (λ o. (v.node o).lost c ≡ true) same e in cc)
-      | inr ne ↦ h.told q c (sym (ap (λ (n : Node). n.lost c) (loses_others q ne)) ∙ e)
-    ]);
-  }
-
--- ---- the start
-
-pub start_shows : (s : Setup) → Shows s (first_world s) (λ d. start) (λ d. None)
-start_shows s = record {
-  at = λ d. record {
-    fits = λ q k. record { early = λ l. refl; now = λ e o. refl; later = λ l. absurd (omega arith); ended = λ e o. absurd (let bad : false ≡ true = e in cc) };
-    heard = λ q c u. refl;
-    link = λ a b ne u. refl;
-    living = λ q. refl;
-    gone = λ q. refl;
-  };
-  owes = λ d. record {
-    kept = λ y e. kept_blank (length y.who) (seat_at y.who) start blank_start;
-    blank = λ e. blank_start;
-    fated = λ p g e. absurd (let bad : Outside ≡ Decided g = e in cc);
-    votes = λ p v e. absurd (let bad : None ≡ Some v = e in cc);
-    by = λ g e. absurd (let bad : None ≡ Some g = e in cc);
-  };
-  here = λ q k. refl;
-  role = λ q d x k e i. absurd (let bad : 0 ≡ suc d = e in omega (arith, bad));
-  sane = λ q k. record {
-    me = refl;
-    fresh = λ e. refl;
-    later = λ e. absurd (let bad : false ≡ true = e in cc);
-    placed = λ e. absurd (let bad : false ≡ true = e in cc);
-    inside = λ ph e. absurd (let bad : true ≡ false = ap is_begin e in cc);
-    mine = λ l. has_all s.procs q ∙ below q s.procs l;
-  };
-  over = λ q k e. absurd (let bad : false ≡ true = e in cc);
-  told = λ q c e. absurd (let bad : false ≡ true = e in cc);
-}
-  where
-    below : (a b : ℕ) → a < b → nat_lt a b ≡ true
-    below a b e = grind (arith, nat_tests)
