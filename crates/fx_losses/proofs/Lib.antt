@@ -15,3 +15,8 @@ pub mod Places
 pub mod Finals
 pub mod Notices
 pub mod Losses
+pub mod Linked
+pub mod Closings
+pub mod Openings
+pub mod Schedule
+pub mod Moments

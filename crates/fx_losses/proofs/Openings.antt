@@ -1,6 +1,6 @@
 -- What a process writes as it returns from `Init`: all that its callbacks are to write, and then the return.
 use Rattle.std.proofs.Common.{◌≡◌, ◌≢◌, ◌<◌, ℕ, zero, suc, Bool, true, false, ◌==◌, List, [], ◌∷◌, ◌++◌, map, length, Option, Some, None, refl, sym, ap, subst, ◌∙◌}
-use Rattle.std.specs.Prelude.{nat_lt}
+use Rattle.std.specs.Prelude.{if◌then◌else◌, nat_lt}
 use Rattle.std.specs.List.{filter, flat_map}
 use Rattle.fx_base.specs.declared.names.Role.{Role}
 use Rattle.fx_base.specs.declared.names.Role.TheVariants as role
@@ -80,7 +80,7 @@ module _ (job : Job) (n : Node) (few : n.me < procs_of job) (state : State) wher
   prints_then (what ∷ prints) notes l more rest x at current behind =
       wrote_one l (print_item n what) (at_notes (map stand.Print prints ++ notes)) x (noted ((map (print_item n) prints ++ more) ++ rest))
       (ap (λ (o : Stand). standing p o l) (ap effects.printed at))
-      ((few, subst (IsPrint n.epoch what) (sym at) (refl, refl), current), tt)
+      ((few, (subst (IsPrint n.epoch what) (sym at) (refl, refl), current)), tt)
       (prints_then prints notes (standing p (at_notes (map stand.Print prints ++ notes)) l) more rest x (key_same p (at_notes (map stand.Print prints ++ notes)) l.stands) current behind)
 
   notes_then : (called : List Called) (l : Ledger) (rest : List Item) (x : Stand) → l.stands p ≡ at_notes (notes_of called) → l.chapters (suc n.epoch) ≡ None → Behind l (noted rest) x
@@ -89,7 +89,7 @@ module _ (job : Job) (n : Node) (few : n.me < procs_of job) (state : State) wher
   notes_then (c ∷ cs) l rest x at current behind =
       wrote_one l (item.Callback (proc p) (epoch_no n.epoch) c.name) (at_notes (map stand.Print c.prints ++ notes_of cs)) x (noted ((map (print_item n) c.prints ++ flat_map (callback_items n) cs) ++ rest))
       (ap (λ (o : Stand). standing p o l) (ap effects.noted at))
-      ((few, subst (IsNote n.epoch (stand.Callback c.name)) (sym at) (refl, refl), current), tt)
+      ((few, (subst (IsNote n.epoch (stand.Callback c.name)) (sym at) (refl, refl), current)), tt)
       (prints_then c.prints (notes_of cs) (standing p (at_notes (map stand.Print c.prints ++ notes_of cs)) l) (flat_map (callback_items n) cs) rest x
       (key_same p (at_notes (map stand.Print c.prints ++ notes_of cs)) l.stands) current
       (λ m at_m same. notes_then cs m rest x at_m (ap (λ (f : ℕ → Option Chapter). f (suc n.epoch)) same ∙ current) (λ k at_k same_k. behind k at_k (same_k ∙ same))))
@@ -128,11 +128,7 @@ module _ (job : Job) (n : Node) (l : Ledger) (few : n.me < procs_of job) (comm :
       role_same : (e : ℕ) → role_in m e n.me ≡ role_in l e n.me
       role_same zero = refl
       role_same (suc zero) = refl
-      role_same (suc (suc e)) = ap (λ (f : ℕ → Option Chapter). if_place (has_place (comm_of (f (suc e))) n.me)) same
-        where
-          if_place : Bool → Role
-          if_place true = role.Survivor
-          if_place false = role.Recovered
+      role_same (suc (suc e)) = ap (λ (f : ℕ → Option Chapter). if has_place (comm_of (f (suc e))) n.me then role.Survivor else role.Recovered) same
 
   pub inits_wrote : Wrote job l n.me (noted (inits (job_setup job) n).items) in_body
   inits_wrote = notes_then job n few state (callbacks_at_init (facts_of job) n.role (my_place n) (size n) (state_of n)) l (init_item (job_setup job) n ∷ []) in_body at current (λ m at_m same. returns m at_m same)

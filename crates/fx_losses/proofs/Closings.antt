@@ -56,19 +56,22 @@ use Rattle.fx_losses.proofs.Votes.{Slotted, alive_slot, alive_voter, voter_voted
 before : (d : ℕ) → suc d - 1 ≡ d
 before d = omega arith
 
+apart_zero : (e : ℕ) → (suc e == 0) ≡ false
+apart_zero e = grind (arith, nat_tests)
+
 next_apart : (a : ℕ) → suc a ≢ a
 next_apart a = λ e. omega (arith, e)
 
 in_seats : (present : ℕ → Bool) (seats : List Seat) (p : ℕ) → AllPresent present seats → has_place seats p ≡ true → present p ≡ true
 in_seats present [] p a e = absurd (let bad : false ≡ true = e in cc)
-in_seats present (s ∷ seats) p a e = of (s.1.0 == p) refl e
+in_seats present (s ∷ seats) p a e = of (in_seats present seats p a.1) (s.1.0 == p) refl e
   where
     equal : (a b : ℕ) → (a == b) ≡ true → a ≡ b
     equal a b e = grind (arith, nat_tests)
 
-    of : (b : Bool) → (s.1.0 == p) ≡ b → (b || has_place seats p) ≡ true → present p ≡ true
-    of true same h = ap present (sym (equal s.1.0 p same)) ∙ a.0
-    of false same h = in_seats present seats p a.1 h
+    of : (has_place seats p ≡ true → present p ≡ true) → (b : Bool) → (s.1.0 == p) ≡ b → (b || has_place seats p) ≡ true → present p ≡ true
+    of later true same h = ap present (sym (equal s.1.0 p same)) ∙ a.0
+    of later false same h = later h
 
 -- who has a place behind a repair is present
 in_repair : (present : ℕ → Bool) (old : List Seat) (p : ℕ) → has_place (repaired old present) p ≡ true → present p ≡ true
@@ -360,7 +363,7 @@ module _ (job : Job) (w : World) (z : ℕ → ballot.World) (fate : ℕ → Opti
     role_is (suc e) same =
         ap (λ (o : ℕ). role_in l (suc o) n.me) same
         ∙ ap (λ (c : List Seat). if has_place c n.me then role.Survivor else role.Recovered) (ap (comm_in l) (sym same) ∙ ap comm_of y.at ∙ sym y.like.comm)
-        ∙ sym (ap (λ (o : ℕ). if o == 0 then role.Initial else (if has_place n.comm n.me then role.Survivor else role.Recovered)) same)
+        ∙ sym (ap (λ (b : Bool). if b then role.Initial else (if has_place n.comm n.me then role.Survivor else role.Recovered)) (ap (λ (o : ℕ). o == 0) same ∙ apart_zero e))
 
     kept_is : state_kept (blank (facts_of job)) (l.stands n.me) ≡ state_of n
     kept_is = ap (λ (o : ℕ). state_kept (blank (facts_of job)) (l.stands o)) own ∙ ap (state_kept (blank (facts_of job))) waits.stand

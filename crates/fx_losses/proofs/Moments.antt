@@ -8,7 +8,7 @@ use Rattle.fx_machine.specs.Texts.{Text}
 use Rattle.fx_fleet.specs.World.{World, up, does_if, steps, receives_front, delivers, learns, may_learn, notices, loses, kills}
 use Rattle.fx_fleet.specs.World as world
 use Rattle.fx_fleet.specs.Rounds.{Moment, Step, Rest, Deliver, Kill, Notice, Run, is_quiet, rests, receives_all, drains, attends, fair_turn, fair_round, happens, all_happen, all_over, whole}
-use Rattle.fx_deeds.proofs.Whole.{until_keeps, rising_keep, rest_left}
+use Rattle.fx_deeds.proofs.Whole.{until_keeps, rising_keep, rest_left, still_up}
 use Rattle.fx_calm.proofs.Lists.{Each, chosen}
 use Rattle.std.proofs.lemmas.Bool.Decides.{nat_tests}
 use Rattle.fx_losses.proofs.Schedule.{killed_by, kills_of}
@@ -23,9 +23,6 @@ pub record IsKeptAlong (s : Setup) (Is : List ℕ → World → Type 0) : Type 0
 
 was_killed : (s : Setup) (p q : ℕ) (w : World) → may_learn s p q w ≡ true → w.killed p ≡ true
 was_killed s p q w e = grind (arith, nat_tests, e)
-
-still_up : (s : Setup) (p q : ℕ) (t : Text) (rest : List Text) (w : World) → up s w q ≡ true → up s (receives_front p q (t ∷ rest) w) q ≡ true
-still_up s p q t rest w on = grind (arith, nat_tests, on)
 
 module _ (s : Setup) (Is : List ℕ → World → Type 0) (k : IsKeptAlong s Is) (ps : List ℕ) where
   step_keeps : (p : ℕ) (w : World) → Is ps w → Is ps (steps s p w)
@@ -42,7 +39,7 @@ module _ (s : Setup) (Is : List ℕ → World → Type 0) (k : IsKeptAlong s Is)
   all_attend : (p q : ℕ) (ts : List Text) (w : World) → w.link p q ≡ ts → Attends q w → Attends q (receives_all p q ts w)
   all_attend p q [] w e is = is
   all_attend p q (t ∷ rest) w e is =
-      all_attend p q rest (receives_front p q (t ∷ rest) w) (rest_left s p q t rest w) (still_up s p q t rest w is.0, k.hears ps p q t rest w is.0 e is.1)
+      all_attend p q rest (receives_front p q (t ∷ rest) w) (rest_left p q t rest w) (still_up s p q t rest w is.0, k.hears ps p q t rest w is.0 e is.1)
 
   front_keeps : (p q : ℕ) (w : World) → up s w q ≡ true → (ts : List Text) → w.link p q ≡ ts → Is ps w → Is ps (receives_front p q ts w)
   front_keeps p q w on [] e is = is

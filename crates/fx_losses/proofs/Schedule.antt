@@ -42,11 +42,11 @@ kills_are (e ∷ events) = of e.kind (kills_are events)
 -- once more are gone, those of the kills that were due are due that are
 pub due_again : (f g : ℕ → Stand) → ((q : ℕ) → is_gone (f q) ≡ true → is_gone (g q) ≡ true) → (xs : List ℕ) → due_kills g (due_kills f xs) ≡ due_kills g xs
 due_again f g grows [] = refl
-due_again f g grows (x ∷ xs) = of (is_gone (f x)) refl
+due_again f g grows (x ∷ xs) = of (due_again f g grows xs) (is_gone (f x)) refl
   where
-    of : (b : Bool) → is_gone (f x) ≡ b → due_kills g (if b then due_kills f xs else x ∷ xs) ≡ due_kills g (x ∷ xs)
-    of true gone = due_again f g grows xs ∙ sym (ap (λ (b : Bool). if b then due_kills g xs else x ∷ xs) (grows x gone))
-    of false stays = refl
+    of : due_kills g (due_kills f xs) ≡ due_kills g xs → (b : Bool) → is_gone (f x) ≡ b → due_kills g (if b then due_kills f xs else x ∷ xs) ≡ due_kills g (x ∷ xs)
+    of rest true gone = rest ∙ sym (ap (λ (b : Bool). if b then due_kills g xs else x ∷ xs) (grows x gone))
+    of rest false stays = refl
 
 pub due_kept : (f g : ℕ → Stand) → ((q : ℕ) → is_gone (f q) ≡ true → is_gone (g q) ≡ true) → (xs ys : List ℕ) → due_kills f xs ≡ due_kills f ys → due_kills g xs ≡ due_kills g ys
 due_kept f g grows xs ys e = sym (due_again f g grows xs) ∙ ap (due_kills g) e ∙ due_again f g grows ys
