@@ -20,3 +20,4 @@ pub mod Closings
 pub mod Openings
 pub mod Schedule
 pub mod Moments
+pub mod Deeds
