@@ -21,3 +21,7 @@ pub mod Openings
 pub mod Schedule
 pub mod Moments
 pub mod Deeds
+pub mod Legally
+pub mod Hearing
+pub mod Losing
+pub mod Legality
