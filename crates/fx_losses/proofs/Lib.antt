@@ -25,3 +25,4 @@ pub mod Legally
 pub mod Hearing
 pub mod Losing
 pub mod Legality
+pub mod Accepted
