@@ -42,10 +42,12 @@ use Rattle.fx_legal.specs.Stands.{Stand, is_killed, is_gone}
 use Rattle.fx_losses.specs.Eras.{Era, first_era, era_of, is_last, next_of, next_era, era}
 use Rattle.fx_losses.proofs.Turns.{after_turn, shown_turn, after_other, after_votes, after_living, after_gone}
 use Rattle.fx_losses.proofs.Decides.{agrees, true_slots, sealed_here, own_voter, next_era_is}
-use Rattle.fx_losses.proofs.Eras.{next_none, era_before, era_dead, era_distinct, voters_among}
-use Rattle.fx_losses.proofs.Finals.{all_final_voted}
+use Rattle.fx_losses.specs.Losses.{HasLoss}
+use Rattle.fx_losses.proofs.Eras.{born as born_from, next_none, era_before, era_dead, era_distinct, voters_among}
+use Rattle.fx_losses.proofs.Finals.{all_final_voted, one_not_final}
+use Rattle.fx_losses.proofs.Voted.{Kinds, votes_one, got_is}
 use Rattle.fx_losses.proofs.Linked.{Linked, Links, unjoined, own_chapter}
-use Rattle.fx_losses.proofs.Moves.{some_era}
+use Rattle.fx_losses.proofs.Moves.{at_one, some_era}
 use Rattle.fx_losses.proofs.Places.{place_is, keeps_place}
 use Rattle.fx_losses.proofs.Shows.{EndedAs, Shows, up_parts}
 use Rattle.fx_losses.proofs.Standing.{LikeEra, Like, Liked, liked, unliked, unborn_too, like_on, Waits, Settled, OfStage, AtStage, gone_where_over}
@@ -75,6 +77,13 @@ in_seats present (s ∷ seats) p a e = of (in_seats present seats p a.1) (s.1.0 
 -- who has a place behind a repair is present
 in_repair : (present : ℕ → Bool) (old : List Seat) (p : ℕ) → has_place (repaired old present) p ≡ true → present p ≡ true
 in_repair present old p e = in_seats present (repaired old present) p (repaired_present present old) e
+
+-- who has a place in an epoch from 1 on is present in it
+era_places : (s : Setup) (fate : ℕ → Option (List Slot)) (d : ℕ) (x : Era) (q : ℕ) → 0 < d → era (first_era s) fate d ≡ Some x → has_place x.comm q ≡ true → has x.who q ≡ true
+era_places s fate zero x q pos e place = absurd (omega (arith, pos))
+era_places s fate (suc d) x q pos e place =
+    let b = born_from d (era (first_era s) fate d) (fate d) x e in
+    subst (λ (o : Era). has_place o.comm q ≡ true → has o.who q ≡ true) b.next (λ i. in_repair (has (voters (is_join (suc d)) b.before.who b.slots)) b.before.comm q i) place
 
 some_value : {X : Type 0} (o : Option X) (v : X) → o ≡ Some v → is_some o ≡ true
 some_value o v e = ap is_some e
@@ -212,6 +221,29 @@ module _ (job : Job) (w : World) (z : ℕ → ballot.World) (fate : ℕ → Opti
           (ap (λ (f : Option (List Slot)). next_era (suc d) (era (first_era s) fate_now (suc d)) f) still ∙ next_none (suc d) (era (first_era s) fate_now (suc d)))
           ∙ sym (era_dead (first_era s) fate (suc d) e (omega (arith, up)) dead)
 
+  -- as what members voted stays right behind the decision
+  pub kinds_now : Kinds (job_setup job) z fate → Kinds (job_setup job) (at_one (w.node p).epoch (after_turn w z p (record { phase = phase; poll = poll.Decided slots })) z) fate_now
+  kinds_now ks = record {
+    final = λ e q v y pos is_now vote place.
+        let old_vote : vote_of (z e) q ≡ Some v = sym (votes_one d after z votes e q) ∙ vote in
+        elim (cases_eq e (suc d)) [
+          | inl same ↦ newest e q v y same pos is_now old_vote place
+          | inr ne ↦ ks.final e q v y pos (sym (era_same e ne) ∙ is_now) old_vote place
+        ];
+  }
+    where
+      all_same : fate d ≡ Some slots → (a : ℕ) → fate_now a ≡ fate a
+      all_same some a = elim (cases_eq a d) [
+        | inl same ↦ subst (λ b. fate_now b ≡ fate b) (sym same) (put_same fate d (Some slots) ∙ sym some)
+        | inr far ↦ put_other fate d a (Some slots) far
+      ]
+
+      newest : (e q : ℕ) (v : Slot) (y : Era) → e ≡ suc d → 0 < e → era (first_era s) fate_now e ≡ Some y → vote_of (z e) q ≡ Some v → has_place y.comm q ≡ true → v ≡ slot.Final
+      newest e q v y same pos is_now vote place = elim (same_fate (fate d) refl) [
+        | inl none ↦ absurd (let bad : None ≡ Some v = sym (((h.owes (suc d)).blank (next_now None none)).vote q q) ∙ subst (λ o. vote_of (z o) q ≡ Some v) same vote in cc)
+        | inr some ↦ ks.final e q v y pos (sym (ap (λ (f : ℕ → Option (List Slot)). era (first_era s) f e) (λ i a. all_same some a i)) ∙ is_now) vote place
+      ]
+
   -- ---- the node goes on
 
   module _ (goes : is_last (w.node p).epoch (era_of (w.node p)) slots ≡ false) where
@@ -303,6 +335,26 @@ module _ (job : Job) (w : World) (z : ℕ → ballot.World) (fate : ℕ → Opti
           | inl same ↦ same_epoch same
           | inr ne ↦ clash x x (sym era_now ∙ era_dead (first_era s) fate (suc (w.node q).epoch) d (omega (arith, low, ne)) behind)
         ]
+
+    -- a place was lost
+    pub lossy : Kinds (job_setup job) z fate → 0 < (w.node p).epoch → HasLoss l (w.node p).epoch
+    lossy ks later =
+        let r = one_not_final (λ q. is_final (get_or slots (seat_of n.present q) slot.Lost)) n.comm (not_all (nat_lt 0 d) _ (below d later) goes) in
+        (r.0, ap (λ (c : List Seat). has_place c r.0) (ap comm_of y.at ∙ sym y.like.comm) ∙ r.1, t.killed r.0 ∙ dead r.0 r.1 r.2 (w.killed r.0) refl)
+      where
+        below : (a : ℕ) → 0 < a → nat_lt 0 a ≡ true
+        below a e = grind (arith, nat_tests)
+
+        not_all : (a b : Bool) → a ≡ true → (a && b) ≡ false → b ≡ false
+        not_all a b e f = grind (arith, nat_tests)
+
+        dead : (q : ℕ) → has_place n.comm q ≡ true → is_final (get_or slots (seat_of n.present q) slot.Lost) ≡ false → (b : Bool) → w.killed q ≡ b → w.killed q ≡ true
+        dead q place not_final true e = e
+        dead q place not_final false e =
+            let in_it : has n.present q ≡ true = era_places s fate d x q later (h.here p k.1) place in
+            let v : Slotted n.present slots after q = alive_slot n.present slots after q origin in_it (lives q (t.killed q ∙ e)).0 (lives q (t.killed q ∙ e)).1 in
+            let final : v.slot ≡ slot.Final = ks.final d q v.slot x later (h.here p k.1) (sym (votes q) ∙ v.vote) place in
+            absurd (let bad : true ≡ false = sym (ap is_final (got_is slots (seat_of n.present q) v.slot v.at ∙ final)) ∙ not_final in cc)
 
     begins : l.chapters (suc d) ≡ None → rules.Begins job l (suc d) next.comm
     begins none = record {

@@ -48,15 +48,17 @@ use Rattle.fx_legal.specs.Legal.{GoesOn, written_all}
 use Rattle.fx_legal.specs.Rules.{MayJoin, IsStirred, IsPrint}
 use Rattle.fx_legal.specs.Stands as stand
 use Rattle.fx_legal.specs.Stands.{Stand, is_killed}
-use Rattle.fx_losses.specs.Eras.{first_era, era_of, era}
+use Rattle.fx_losses.specs.Eras.{Era, first_era, era_of, era}
 use Rattle.fx_losses.proofs.Actions.{member, acted_writes, plain_steps, deems_same, behind_join, join_steps, join_deems, join_vote, join_votes}
 use Rattle.fx_losses.proofs.Turns.{after_turn, after_votes, shown_turn}
 use Rattle.fx_losses.proofs.Turning.{moved_steps, moved_deems, spoken_steps, spoken_deems, spoken_said}
-use Rattle.fx_losses.proofs.Closings.{may_repair, repair_links, may_ending, end_links}
+use Rattle.fx_losses.proofs.Closings.{kinds_now, lossy, may_repair, repair_links, may_ending, end_links}
 use Rattle.fx_losses.proofs.Decides.{next_steps, next_deems, end_steps, end_deems}
 use Rattle.fx_losses.proofs.Eras.{born}
 use Rattle.fx_losses.proofs.Linked.{Linked, Links, Stance, stance}
-use Rattle.fx_losses.proofs.Moves.{Steps, Deems, at_one, one_here}
+use Rattle.fx_losses.proofs.Moves.{Steps, Deems, at_one, one_here, one_far, some_era}
+use Rattle.fx_losses.specs.Losses.{RepairLosses}
+use Rattle.fx_losses.proofs.Voted.{Kinds, kinds_same, votes_one, loss_owed, no_losses, inits_no_repairs}
 use Rattle.fx_losses.proofs.Openings.{Wrote, standing, wrote_none, wrote_one, inits_wrote, in_body}
 use Rattle.fx_losses.proofs.Readings.{turn_shown, left_joined}
 use Rattle.fx_losses.proofs.Shows.{phase_of, is_begin, is_later, is_placed, role_after, Sane, Shows, IsTrue, Truthful, up_parts}
@@ -76,6 +78,8 @@ pub record Does (job : Job) (p : ℕ) (act : Act) (w : World) (z : ℕ → ballo
   pub goes : GoesOn job l (noted act.items)
   pub links : Links job p act w fate_now after l (written_all job l (noted act.items))
   pub kills : (written_all job l (noted act.items)).kills ≡ l.kills
+  pub kinds : Kinds (job_setup job) (at_one (w.node p).epoch after z) fate_now
+  pub losses : RepairLosses job l (noted act.items)
 
 sent_all : (Is : Text → Type 0) (t : Text) → Is t → (qs : List ℕ) (b : ℕ) → Each Is (sent_to b (map (λ q. (q, t)) qs))
 sent_all Is t is [] b = tt
@@ -126,7 +130,7 @@ pair_else : (a b c q : ℕ) → c ≢ a → ((c == a) && (q == b)) ≡ false
 pair_else a b c q ne = grind (arith, nat_tests)
 
 module _ (job : Job) (asks : AsksNothing job) (w : World) (z : ℕ → ballot.World) (fate : ℕ → Option (List Slot)) (l : Ledger) (p : ℕ) (here : up (job_setup job) w p ≡ true) (h : Shows (job_setup job) w z fate)
-    (tr : Truthful (job_setup job) w z fate) (t : Linked job w z fate l) where
+    (tr : Truthful (job_setup job) w z fate) (t : Linked job w z fate l) (ks : Kinds (job_setup job) z fate) where
   abbrev s : Setup
   s = job_setup job
 
@@ -190,7 +194,8 @@ module _ (job : Job) (asks : AsksNothing job) (w : World) (z : ℕ → ballot.Wo
   -- ---- joins
 
   module _ (kind : Slot) (out : phase_of (w.node p).stage ≡ Outside) (is : is_join (suc (w.node p).epoch) kind ≡ true) (may : MayJoin l (suc (w.node p).epoch) kind (l.stands (w.node p).me))
-      (left : state_left (blank (facts_of job)) (l.stands (w.node p).me) ≡ state_of (w.node p)) (empty : (nat_lt 0 (w.node p).epoch && has_place (w.node p).comm (w.node p).me) ≡ false → state_of (w.node p) ≡ blank (facts_of job)) where
+      (left : state_left (blank (facts_of job)) (l.stands (w.node p).me) ≡ state_of (w.node p)) (empty : (nat_lt 0 (w.node p).epoch && has_place (w.node p).comm (w.node p).me) ≡ false → state_of (w.node p) ≡ blank (facts_of job))
+      (final : 0 < (w.node p).epoch → has_place (w.node p).comm p ≡ true → kind ≡ slot.Final) where
     abbrev act : Act
     act = joined kind n
 
@@ -237,6 +242,30 @@ module _ (job : Job) (asks : AsksNothing job) (w : World) (z : ℕ → ballot.Wo
         dead_far : (q : ℕ) → is_killed (l.stands q) ≡ true → q ≢ p
         dead_far q dead same = let bad : true ≡ false = sym (subst (λ o. is_killed (l.stands o) ≡ true) same dead) ∙ alive in cc
 
+    join_kinds : Kinds s (at_one d after z) fate
+    join_kinds = record {
+      final = λ e q v y pos is_now vote place. elim (cases_eq e d) [
+        | inl same ↦ elim (cases_eq q p) [
+          | inl it_is ↦
+              own_final e q v y same it_is pos is_now (sym (ap (λ (o : ballot.World). vote_of o q) (here_now e same)) ∙ vote) place
+          | inr ne ↦ ks.final e q v y pos is_now (sym (join_votes s w z fate p here h kind out q ne ∙ ap (λ (o : ℕ). vote_of (z o) q) (sym same)) ∙ sym (ap (λ (o : ballot.World). vote_of o q) (here_now e same)) ∙ vote) place
+        ]
+        | inr ne ↦ ks.final e q v y pos is_now (sym (ap (λ (o : ballot.World). vote_of o q) (one_far d e after z ne)) ∙ vote) place
+      ];
+    }
+      where
+        here_now : (e : ℕ) → e ≡ d → at_one d after z e ≡ after
+        here_now e same = ap (at_one d after z) same ∙ one_here d after z
+
+        some_slot : (x y : Slot) → Some x ≡ Some y → x ≡ y
+        some_slot x y e = cc
+
+        own_final : (e q : ℕ) (v : Slot) (y : Era) → e ≡ d → q ≡ p → 0 < e → era (first_era s) fate e ≡ Some y → vote_of after q ≡ Some v → has_place y.comm q ≡ true → v ≡ slot.Final
+        own_final e q v y same it_is pos is_now vote place =
+            let its : y ≡ era_of n = some_era y (era_of n) (sym is_now ∙ ap (era (first_era s) fate) same ∙ h.here p k.1) in
+            let cast : kind ≡ v = some_slot kind v (sym (join_vote s w z fate p here h kind out) ∙ ap (vote_of after) (sym it_is) ∙ vote) in
+            sym cast ∙ final (subst (λ (o : ℕ). 0 < o) same pos) (ap (λ (o : ℕ). has_place n.comm o) (sym it_is) ∙ ap (λ (o : Era). has_place o.comm q) (sym its) ∙ place)
+
     said_true : IsTrue s (at_one d after z) fate p (text.Join (suc d) kind)
     said_true = ap (λ (o : ballot.World). vote_of o p) (one_here d after z) ∙ join_vote s w z fate p here h kind out
 
@@ -253,6 +282,8 @@ module _ (job : Job) (asks : AsksNothing job) (w : World) (z : ℕ → ballot.Wo
       goes = ((few, may), tt);
       links = join_links;
       kills = refl;
+      kinds = join_kinds;
+      losses = (tt, tt);
     }
 
   -- ---- why a spare joins
@@ -291,13 +322,14 @@ module _ (job : Job) (asks : AsksNothing job) (w : World) (z : ℕ → ballot.Wo
       let none : d ≡ 0 = (h.sane p k.1).fresh (ap is_begin at) in
       join_does slot.Start (ap phase_of at) (subst (λ (o : ℕ). is_join (suc o) slot.Start ≡ true) (sym none) refl)
       (subst (MayJoin l (suc d) slot.Start) (sym b.stand) (refl, ap suc none))
-      (ap (state_left (blank (facts_of job))) b.stand ∙ sym b.empty) (λ e. b.empty)
+      (ap (state_left (blank (facts_of job))) b.stand ∙ sym b.empty) (λ e. b.empty) (λ pos place. absurd (omega (arith, none, pos)))
   joins_does kind (HelpsOut at place may) =
       let b : Settled job (l.stands n.me) n = at_stage Arrived at in
       let r = b.spare place in
       join_does slot.Spare (ap phase_of at) (not_first d ((h.sane p k.1).later (ap is_later at)))
       (subst (MayJoin l (suc d) slot.Spare) (sym r.0) (refl, refl, stirred at may))
       (ap (state_left (blank (facts_of job))) r.0 ∙ sym r.1) (λ e. r.1)
+      (λ pos has. absurd (let bad : false ≡ true = sym place ∙ ap (has_place n.comm) own ∙ has in cc))
   joins_does kind (HasFailed at) = absurd (at_stage Failed at)
   joins_does kind (IsDone state at walk) =
       let b : InBody (l.stands n.me) n = at_stage Walking at in
@@ -306,6 +338,7 @@ module _ (job : Job) (asks : AsksNothing job) (w : World) (z : ℕ → ballot.Wo
       (subst (MayJoin l (suc d) slot.Final) (sym stands) (refl, ap suc (sym b.within)))
       (ap (state_left (blank (facts_of job))) stands ∙ sym (ap (λ (o : Walk). state_at (stop_of o [])) walk))
       (λ e. absurd (let bad : true ≡ false = sym (both_true (nat_lt 0 d) (has_place n.comm n.me) (above d ((h.sane p k.1).later (ap is_later at))) (ap (has_place n.comm) own ∙ (h.sane p k.1).placed (ap is_placed at))) ∙ e in cc))
+      (λ pos place. refl)
 
   -- ---- turns in the ballot
 
@@ -332,6 +365,8 @@ module _ (job : Job) (asks : AsksNothing job) (w : World) (z : ℕ → ballot.Wo
         goes = tt;
         links = silent_links (moves n Joining phase) _ (after_votes s w z fate p here h old at phase poll.Moved is) (record { stand = b.stand; empty = b.empty });
         kills = refl;
+        kinds = kinds_same s z (at_one d (after_turn w z p (record { phase = phase; poll = poll.Moved })) z) fate (votes_one d (after_turn w z p (record { phase = phase; poll = poll.Moved })) z (after_votes s w z fate p here h old at phase poll.Moved is)) ks;
+        losses = tt;
       }
 
   speaks_does : (old : Phase) (slots : List Slot) → n.stage ≡ Joining old → (turn_in (next_ballot n) n old).poll ≡ poll.SendEstimate slots
@@ -348,6 +383,8 @@ module _ (job : Job) (asks : AsksNothing job) (w : World) (z : ℕ → ballot.Wo
     goes = tt;
     links = silent_links (speaks (next_ballot n) n Joining phase slots) (after_turn w z p (record { phase = (turn_in (next_ballot n) n old).phase; poll = poll.SendEstimate slots })) (after_votes s w z fate p here h old at phase (poll.SendEstimate slots) is) (record { stand = b.stand; empty = b.empty });
     kills = refl;
+    kinds = kinds_same s z (at_one d (after_turn w z p (record { phase = (turn_in (next_ballot n) n old).phase; poll = poll.SendEstimate slots })) z) fate (votes_one d (after_turn w z p (record { phase = (turn_in (next_ballot n) n old).phase; poll = poll.SendEstimate slots })) z (after_votes s w z fate p here h old at phase (poll.SendEstimate slots) is)) ks;
+    losses = tt;
   }
     where
       phase : Phase
@@ -384,6 +421,8 @@ module _ (job : Job) (asks : AsksNothing job) (w : World) (z : ℕ → ballot.Wo
         goes = ((few, may_ending job w z fate l p here h t old at phase slots is last), tt);
         links = end_links job w z fate l p here h t old at phase slots is last;
         kills = refl;
+        kinds = kinds_now job w z fate l p here h t old at phase slots is ks;
+        losses = (tt, tt);
       }
 
   repairs_does : (old : Phase) (slots : List Slot) → n.stage ≡ Joining old → (turn_in (next_ballot n) n old).poll ≡ poll.Decided slots → is_end n slots ≡ false
@@ -403,6 +442,8 @@ module _ (job : Job) (asks : AsksNothing job) (w : World) (z : ℕ → ballot.Wo
         goes = ((few, may_repair job w z fate l p here h t old at phase slots is goes_on), tt);
         links = repair_links job w z fate l p here h t old at phase slots is goes_on;
         kills = refl;
+        kinds = kinds_now job w z fate l p here h t old at phase slots is ks;
+        losses = (loss_owed l d (lossy job w z fate l p here h t old at phase slots is goes_on ks), tt);
       }
 
   -- ---- along the walk
@@ -412,8 +453,8 @@ module _ (job : Job) (asks : AsksNothing job) (w : World) (z : ℕ → ballot.Wo
 
   -- a step outside the ballots that only writes
   writes_does : (items : List Item) (m : Node) (x : Stand) → m.texts ≡ n.texts → m.lost ≡ n.lost → m.epoch ≡ n.epoch → era_of m ≡ era_of n → m.role ≡ n.role → has_ended m ≡ false → phase_of n.stage ≡ phase_of m.stage → Sane s p m
-      → Wrote job l p (noted items) x → AtStage job x m → Does job p (nodes.writing items m) w z fate l
-  writes_does items m x texts lost epoch same role goes_on phase sane r mine = record {
+      → Wrote job l p (noted items) x → RepairLosses job l (noted items) → AtStage job x m → Does job p (nodes.writing items m) w z fate l
+  writes_does items m x texts lost epoch same role goes_on phase sane r losses mine = record {
     said = [];
     to = λ b. false;
     after = z d;
@@ -425,6 +466,8 @@ module _ (job : Job) (asks : AsksNothing job) (w : World) (z : ℕ → ballot.Wo
     goes = r.goes;
     links = wrote_links (nodes.writing items m) (noted items) x r mine;
     kills = r.kills;
+    kinds = kinds_same s z (at_one d (z d) z) fate (votes_one d (z d) z (λ q. refl)) ks;
+    losses = losses;
   }
 
   named : 0 < d → n.role ≡ role_in l d n.me
@@ -457,6 +500,7 @@ module _ (job : Job) (asks : AsksNothing job) (w : World) (z : ℕ → ballot.Wo
         mine = sane.mine;
       })
       (at_own _ _ (inits_wrote job n l few (ap comm_of st.chapter.at ∙ sym st.chapter.like.comm) (named later) place (b.seated place) st.current))
+      (no_losses job l (inits s n).items (inits_no_repairs s n))
       (record { stay = _; within = refl; stand = refl; only = asks (view_at_init n.role (my_place n) (size n)) (body_start (facts_of job) n.role (my_place n) (size n) (state_of n)) })
 
   same_sane : (rest : Walk) → Sane s p (record n { walk = rest })
@@ -465,7 +509,7 @@ module _ (job : Job) (asks : AsksNothing job) (w : World) (z : ℕ → ballot.Wo
   passes_does : (rest : Walk) → n.stage ≡ Walking → n.walk ≡ Passes rest → Does job p (passes_on rest n) w z fate l
   passes_does rest at e =
       let b : InBody (l.stands p) n = subst (OfStage job (l.stands p) n) at (t.stands p k.1) in
-      writes_does [] (record n { walk = rest }) (l.stands p) refl refl refl refl refl k.2 refl (same_sane rest) (wrote_none job l p (l.stands p) refl)
+      writes_does [] (record n { walk = rest }) (l.stands p) refl refl refl refl refl k.2 refl (same_sane rest) (wrote_none job l p (l.stands p) refl) tt
       (subst (OfStage job (l.stands p) (record n { walk = rest })) (sym at)
       (record { stay = b.stay; within = b.within; stand = b.stand ∙ ap (λ (o : Walk). stand.Walking b.stay (stand.shown o)) e; only = subst OnlyPrints e b.only }))
 
@@ -479,6 +523,7 @@ module _ (job : Job) (asks : AsksNothing job) (w : World) (z : ℕ → ballot.Wo
       (at_own _ _ (wrote_one job n few (state_of n) l _ (stand.Walking b.stay (stand.shown rest)) (stand.Walking b.stay (stand.shown rest)) [] (ap (λ (o : Stand). standing n.me o l) (ap effects.printed stands))
       ((few, (subst (IsPrint d what) (sym stands) (b.within, refl), st.current)), tt)
       (wrote_none job _ n.me _ (key_same n.me (stand.Walking b.stay (stand.shown rest)) l.stands))))
+      (tt, tt)
       (subst (OfStage job (stand.Walking b.stay (stand.shown rest)) (record n { walk = rest })) (sym at)
       (record { stay = b.stay; within = b.within; stand = refl; only = (subst OnlyPrints e b.only).1 }))
 

@@ -22,6 +22,8 @@ use Rattle.fx_legal.specs.Effects.{due_kills}
 use Rattle.fx_legal.specs.Ledger.{first_ledger}
 use Rattle.fx_legal.specs.Legal.{GoesOn, ledger_of}
 use Rattle.fx_legal.specs.Stands.{Stand}
+use Rattle.fx_losses.specs.Losses.{RepairLosses}
+use Rattle.fx_losses.proofs.Voted.{Kinds, kinds_same}
 use Rattle.fx_losses.proofs.Events.{behind_delivery, deliver_shows, self_shows, got_own}
 use Rattle.fx_losses.proofs.Notices.{notice_shows, tells_vote, tells_estimate}
 use Rattle.fx_losses.proofs.Linked.{Linked, linked_same}
@@ -38,14 +40,16 @@ same_journal items it unseen = filter-append is_of_journal items (it ∷ []) ∙
 
 module _ (job : Job) (ps : List ℕ) (w v : World) (z : ℕ → ballot.World) (fate : ℕ → Option (List Slot)) (same : noted v.items ≡ noted w.items) where
   -- nothing was written
-  quietly : (is : Legally job ps w) → Shows (job_setup job) v z fate → Truthful (job_setup job) v z fate → Linked job v z fate (ledger_of job (noted w.items)) → Legally job ps v
-  quietly is shows truthful linked = record {
+  quietly : (is : Legally job ps w) → Shows (job_setup job) v z fate → Truthful (job_setup job) v z fate → Linked job v z fate (ledger_of job (noted w.items)) → Kinds (job_setup job) z fate → Legally job ps v
+  quietly is shows truthful linked kinds = record {
     worlds = z;
     fate = fate;
     shows = shows;
     truthful = truthful;
     goes = subst (GoesOn job (first_ledger job)) (sym same) is.goes;
     linked = subst (λ (l : List Item). Linked job v z fate (ledger_of job l)) (sym same) linked;
+    kinds = kinds;
+    losses = subst (RepairLosses job (first_ledger job)) (sym same) is.losses;
     due = subst (λ (l : List Item). due_kills (ledger_of job l).stands (ledger_of job l).kills ≡ due_kills (ledger_of job l).stands ps) (sym same) is.due;
   }
 
@@ -66,12 +70,14 @@ pub hears_legally : (job : Job) (ps : List ℕ) (a b : ℕ) (t : Text) (rest : L
     → Legally job ps (receives_front a b (t ∷ rest) w)
 hears_legally job ps a b t rest w on front is = elim (cases_eq a b) [
   | inl same ↦ quietly job ps w (receives_front a b (t ∷ rest) w) is.worlds is.fate silent is (self_shows (job_setup job) a b t rest w is.worlds is.fate on front is.shows same) (truthful_receives (job_setup job) is.worlds is.fate a b t rest w front is.truthful)
-      (linked_same job w (receives_front a b (t ∷ rest) w) is.worlds is.worlds is.fate (ledger_of job (noted w.items)) (λ q. refl) (λ d q. refl) stands is.linked)
+      (linked_same job w (receives_front a b (t ∷ rest) w) is.worlds is.worlds is.fate (ledger_of job (noted w.items)) (λ q. refl) (λ d q. refl) stands is.linked) is.kinds
   | inr ne ↦ quietly job ps w (receives_front a b (t ∷ rest) w) (behind_delivery (job_setup job) a b t rest w is.worlds is.fate on front is.shows ne) is.fate silent is (deliver_shows (job_setup job) a b t rest w is.worlds is.fate on front is.shows ne)
       (truthful_same (job_setup job) is.worlds (behind_delivery (job_setup job) a b t rest w is.worlds is.fate on front is.shows ne) is.fate (receives_front a b (t ∷ rest) w) (λ d q. got_own a b (text_in (suc d) t) (of_epoch (suc d) rest) (is.worlds d) ne q)
       (truthful_receives (job_setup job) is.worlds is.fate a b t rest w front is.truthful))
       (linked_same job w (receives_front a b (t ∷ rest) w) is.worlds (behind_delivery (job_setup job) a b t rest w is.worlds is.fate on front is.shows ne) is.fate (ledger_of job (noted w.items)) (λ q. refl)
       (λ d q. ap (λ (x : Heard). x.vote) (got_own a b (text_in (suc d) t) (of_epoch (suc d) rest) (is.worlds d) ne q)) stands is.linked)
+      (kinds_same (job_setup job) is.worlds (behind_delivery (job_setup job) a b t rest w is.worlds is.fate on front is.shows ne) is.fate
+      (λ d q. ap (λ (x : Heard). x.vote) (got_own a b (text_in (suc d) t) (of_epoch (suc d) rest) (is.worlds d) ne q)) is.kinds)
 ]
   where
     silent : noted (receives_front a b (t ∷ rest) w).items ≡ noted w.items
@@ -89,6 +95,7 @@ tells_legally job ps a b w dead is =
     (truthful_grows (job_setup job) is.worlds (λ d. tells a b (is.worlds d)) is.fate is.fate (λ d c x e. tells_vote a b (is.worlds d) c ∙ e) (λ d c x e. tells_estimate a b (is.worlds d) c ∙ e) (λ d x e. e) (learns a b w)
     (truthful_learns (job_setup job) is.worlds is.fate a b w is.truthful))
     (linked_same job w (learns a b w) is.worlds (λ d. tells a b (is.worlds d)) is.fate (ledger_of job (noted w.items)) (λ q. refl) (λ d q. tells_vote a b (is.worlds d) q) stands is.linked)
+    (kinds_same (job_setup job) is.worlds (λ d. tells a b (is.worlds d)) is.fate (λ d q. tells_vote a b (is.worlds d) q) is.kinds)
   where
     silent : noted (learns a b w).items ≡ noted w.items
     silent = same_journal w.items (item.Told (proc a) (proc b)) refl

@@ -17,6 +17,7 @@ use Rattle.fx_legal.specs.Effects.{due_kills}
 use Rattle.fx_legal.specs.Ledger.{Chapter, first_ledger, first_chapter, procs_of}
 use Rattle.fx_legal.specs.Legal.{ledger_of, IsLegalWhole, AllHaveEnded}
 use Rattle.fx_losses.specs.Eras.{Era, first_era, era}
+use Rattle.fx_losses.specs.Losses.{EachEpochHasItsLoss}
 use Rattle.fx_losses.proofs.Eras.{next_none}
 use Rattle.fx_losses.proofs.Losses.{start_shows}
 use Rattle.fx_losses.proofs.Moments.{IsKeptAlong, always_along}
@@ -37,6 +38,8 @@ passes_legally job ps p w few off is = record {
   truthful = is.truthful;
   goes = is.goes;
   linked = is.linked;
+  kinds = is.kinds;
+  losses = is.losses;
   due = due_past (ledger_of job (noted w.items)).stands p (ledger_of job (noted w.items)).kills ps (gone_where_not_up job (ledger_of job (noted w.items)) w is.worlds is.fate is.linked p few ∙ ap not off) is.due;
 }
 
@@ -58,6 +61,8 @@ begins job = record {
     eras = eras;
     stands = λ p e. record { stand = refl; empty = refl };
   };
+  kinds = record { final = λ d q v x pos at vote place. absurd (let bad : None ≡ Some v = vote in cc) };
+  losses = tt;
   due = ap (due_kills (first_ledger job).stands) (kills_are job.events);
 }
   where
@@ -97,6 +102,9 @@ legally job asks few fuel bound = always_along (job_setup job) (Legally job) (ke
 
 pub is_legal : (job : Job) → AsksNothing job → KillsProcesses job → IsLegalWhole job (journal_of job)
 is_legal job asks few = let is = legally job asks few (rest_bound_of job) (bound_of job) in (is.goes, is.due)
+
+pub has_losses : (job : Job) → AsksNothing job → KillsProcesses job → EachEpochHasItsLoss job (journal_of job)
+has_losses job asks few = (legally job asks few (rest_bound_of job) (bound_of job)).losses
 
 -- the world behind the whole run
 abbrev last : Job → World

@@ -23,6 +23,8 @@ use Rattle.fx_legal.specs.Ledger.{Ledger, first_ledger, procs_of}
 use Rattle.fx_legal.specs.Legal.{GoesOn, written_all, ledger_of}
 use Rattle.fx_legal.specs.Stands.{is_gone}
 use Rattle.fx_losses.specs.Eras.{first_era}
+use Rattle.fx_losses.specs.Losses.{RepairLosses}
+use Rattle.fx_losses.proofs.Voted.{Kinds, losses_more}
 use Rattle.fx_losses.proofs.Deeds.{Does, deed_does}
 use Rattle.fx_losses.proofs.Eras.{era_grows}
 use Rattle.fx_losses.proofs.Linked.{Linked, linked_step}
@@ -41,6 +43,8 @@ pub record Legally (job : Job) (ps : List ℕ) (w : World) : Type 0 where
   pub truthful : Truthful (job_setup job) w worlds fate
   pub goes : GoesOn job (first_ledger job) (noted w.items)
   pub linked : Linked job w worlds fate (ledger_of job (noted w.items))
+  pub kinds : Kinds (job_setup job) worlds fate
+  pub losses : RepairLosses job (first_ledger job) (noted w.items)
   pub due : due_kills (ledger_of job (noted w.items)).stands (ledger_of job (noted w.items)).kills ≡ due_kills (ledger_of job (noted w.items)).stands ps
 
 -- sends stand in no journal
@@ -91,7 +95,7 @@ module _ (job : Job) (asks : AsksNothing job) (ps : List ℕ) (p : ℕ) (w : Wor
   m = written_all job l (noted act.items)
 
   o : Does job p act w is.worlds is.fate l
-  o = deed_does job asks w is.worlds is.fate l p on is.shows is.truthful is.linked act (is_deed s (w.node p) act e)
+  o = deed_does job asks w is.worlds is.fate l p on is.shows is.truthful is.linked is.kinds act (is_deed s (w.node p) act e)
 
   more : noted (does s p act w).items ≡ noted w.items ++ noted act.items
   more = noted_more p w.items act.items act.sends
@@ -113,6 +117,8 @@ module _ (job : Job) (asks : AsksNothing job) (ps : List ℕ) (p : ℕ) (w : Wor
     truthful = truthful_step s p act o.said o.to w is.worlds is.fate o.fate_now o.after on o.steps is.shows (λ d x i. era_grows (first_era s) is.fate o.fate_now o.deems.grows d x i) o.saying o.sending is.truthful;
     goes = subst (GoesOn job (first_ledger job)) (sym more) (goes_on_more job (first_ledger job) (noted w.items) (noted act.items) is.goes o.goes);
     linked = subst (Linked job (does s p act w) _ o.fate_now) (sym ledger_now) (linked_step job p act w is.worlds is.fate o.fate_now o.after l m (up_parts s w p on).1 o.links is.linked);
+    kinds = o.kinds;
+    losses = subst (RepairLosses job (first_ledger job)) (sym more) (losses_more job (first_ledger job) (noted w.items) (noted act.items) is.losses o.losses);
     due = subst (λ (x : Ledger). due_kills x.stands x.kills ≡ due_kills x.stands ps) (sym ledger_now)
         (ap (due_kills m.stands) o.kills ∙ due_kept l.stands m.stands grows l.kills ps is.due);
   }

@@ -15,6 +15,7 @@ pub mod Places
 pub mod Finals
 pub mod Notices
 pub mod Losses
+pub mod Voted
 pub mod Linked
 pub mod Closings
 pub mod Openings

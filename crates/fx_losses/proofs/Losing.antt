@@ -21,6 +21,8 @@ use Rattle.fx_legal.specs.Legal.{GoesOn, ledger_of}
 use Rattle.fx_legal.specs.Stands as stand
 use Rattle.fx_legal.specs.Stands.{Stand, is_killed, is_gone}
 use Rattle.fx_losses.specs.Eras.{first_era, era}
+use Rattle.fx_losses.specs.Losses.{RepairLosses}
+use Rattle.fx_losses.proofs.Voted.{kinds_same, losses_more}
 use Rattle.fx_losses.proofs.Losses.{loses_others, loss_shows, kills_heard, slain_not}
 use Rattle.fx_losses.proofs.Linked.{Linked}
 use Rattle.fx_losses.proofs.Schedule.{due_first, first_due}
@@ -93,5 +95,7 @@ module _ (job : Job) (ps : List ℕ) (p : ℕ) (w : World) (on : up (job_setup j
     truthful = truthful_same s is.worlds (λ d. kills p (is.worlds d)) is.fate v (λ d q. kills_heard p q q (is.worlds d)) (truthful_loses s is.worlds is.fate p w is.truthful);
     goes = subst (GoesOn job (first_ledger job)) (sym told) (goes_on_more job (first_ledger job) (noted w.items) (item.Kill (proc p) ∷ []) is.goes ((k.0, first_due p (due_kills l.stands l.kills) ps first), tt));
     linked = subst (Linked job v (λ d. kills p (is.worlds d)) is.fate) (sym ledger_now) linked_now;
+    kinds = kinds_same s is.worlds (λ d. kills p (is.worlds d)) is.fate (λ d q. ap (λ (x : Heard). x.vote) (kills_heard p q q (is.worlds d))) is.kinds;
+    losses = subst (RepairLosses job (first_ledger job)) (sym told) (losses_more job (first_ledger job) (noted w.items) (item.Kill (proc p) ∷ []) is.losses (tt, tt));
     due = subst (λ (x : Ledger). due_kills x.stands x.kills ≡ due_kills x.stands ps) (sym ledger_now) (ap (λ (xs : List ℕ). due_kills m.stands (behind_first xs)) first);
   }

@@ -7,6 +7,7 @@ ghost use Rattle.fx_check.specs.Work.{bound_of};
 ghost use Rattle.fx_fleet.specs.Rounds.{all_over, whole};
 ghost use Rattle.fx_fleet.specs.Runs.{AsksNothing, job_setup, moments_of, rest_bound_of, journal_of};
 ghost use Rattle.fx_legal.specs.Legal.{IsLegalWhole, AllHaveEnded};
+ghost use Rattle.fx_losses.specs.Losses.{EachEpochHasItsLoss};
 
 /// The journal of an accepted job whose body asks nothing is legal and tells the whole schedule, whatever its events are.
 pub fn journals_are_legal()
@@ -20,4 +21,9 @@ pub fn journals_show_all_ends()
         → all_over (job_setup job) (whole (job_setup job) (rest_bound_of job) (bound_of job) (moments_of job)) ≡ true → AllHaveEnded job (journal_of job) }
     ensures only_then { (job : Job) → IsAccepted job → AsksNothing job
         → AllHaveEnded job (journal_of job) → all_over (job_setup job) (whole (job_setup job) (rest_bound_of job) (bound_of job) (moments_of job)) ≡ true }
+{}
+
+/// Each epoch of such a journal has its loss: before it is repaired, a process that had a place in the epoch before it was killed, from epoch 2 on.
+pub fn each_epoch_has_its_loss()
+    ensures { (job : Job) → IsAccepted job → AsksNothing job → EachEpochHasItsLoss job (journal_of job) }
 {}
