@@ -1,0 +1,2 @@
+pub mod Eras
+pub mod Losses

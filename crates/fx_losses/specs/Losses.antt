@@ -1,0 +1,32 @@
+-- What a journal tells of losses.
+use Rattle.std.specs.Prelude.{◌≡◌, ℕ, zero, suc, true, List, [], ◌∷◌}
+use Rattle.fx_comm.specs.Seats.{has_place}
+use Rattle.fx_item.specs.declared.item.Item.{Item}
+use Rattle.fx_item.specs.declared.item.Item.TheVariants as item
+use Rattle.fx_script.specs.declared.job.Job.{Job}
+use Rattle.fx_legal.specs.Effects.{written}
+use Rattle.fx_legal.specs.Ledger.{Ledger, comm_in, first_ledger}
+use Rattle.fx_legal.specs.Stands.{is_killed}
+
+-- a process that has a place in the epoch was killed
+abbrev pub HasLoss : Ledger → ℕ → Type 0
+HasLoss l epoch = (q : ℕ) × (has_place (comm_in l epoch) q ≡ true) × (is_killed (l.stands q) ≡ true)
+
+-- from epoch 1 on, an epoch is repaired only where a place of it was lost
+abbrev pub RepairsLoss : Ledger → ℕ → Type 0
+RepairsLoss l zero = Unit {0}
+RepairsLoss l (suc zero) = Unit {0}
+RepairsLoss l (suc (suc epoch)) = HasLoss l (suc epoch)
+
+abbrev pub IsOwedLoss : Ledger → Item → Type 0
+IsOwedLoss l (item.Repaired p e size warn list) = RepairsLoss l e.0
+IsOwedLoss l other = Unit {0}
+
+-- and so for each item, from the ledger in front of it
+abbrev pub RepairLosses : Job → Ledger → List Item → Type 0
+RepairLosses job l [] = Unit {0}
+RepairLosses job l (it ∷ items) = IsOwedLoss l it × RepairLosses job (written job l it) items
+
+-- each epoch of a journal has its loss
+abbrev pub EachEpochHasItsLoss : Job → List Item → Type 0
+EachEpochHasItsLoss job items = RepairLosses job (first_ledger job) items
