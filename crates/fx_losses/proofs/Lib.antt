@@ -20,3 +20,9 @@ pub mod Closings
 pub mod Openings
 pub mod Schedule
 pub mod Moments
+pub mod Gone
+pub mod Sparing
+pub mod Accepted
+pub mod Killing
+pub mod Asides
+pub mod AsideSteps
