@@ -22,7 +22,5 @@ pub mod Schedule
 pub mod Moments
 pub mod Gone
 pub mod Sparing
-pub mod Accepted
-pub mod Killing
 pub mod Asides
 pub mod AsideSteps
