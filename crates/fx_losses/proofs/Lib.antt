@@ -20,6 +20,11 @@ pub mod Closings
 pub mod Openings
 pub mod Schedule
 pub mod Moments
+pub mod Deeds
+pub mod Legally
+pub mod Hearing
+pub mod Losing
+pub mod Legality
 pub mod Gone
 pub mod Sparing
 pub mod Asides

@@ -87,11 +87,11 @@ others_sent Is t is me b all = sent_all Is t is (filter (λ q. not (q == me)) al
 
 any_found : (test : ℕ → Bool) (qs : List ℕ) → list_any test qs ≡ true → (q : ℕ) × (test q ≡ true)
 any_found test [] e = absurd (let bad : false ≡ true = e in cc)
-any_found test (q ∷ qs) e = here (test q) refl e
+any_found test (q ∷ qs) e = here (any_found test qs) (test q) refl e
   where
-    here : (b : Bool) → test q ≡ b → (b || list_any test qs) ≡ true → (q : ℕ) × (test q ≡ true)
-    here true is e = (q, is)
-    here false is e = any_found test qs e
+    here : (list_any test qs ≡ true → (q : ℕ) × (test q ≡ true)) → (b : Bool) → test q ≡ b → (b || list_any test qs) ≡ true → (q : ℕ) × (test q ≡ true)
+    here rest true is e = (q, is)
+    here rest false is e = rest e
 
 not_first : (d : ℕ) → 0 < d → not (suc d == 1) ≡ true
 not_first d e = grind (arith, nat_tests)
@@ -105,7 +105,7 @@ both_true a b x y = grind (arith, nat_tests)
 -- where one of the members passes it has a place
 member_found : (test : ℕ → Bool) (seats : List Seat) → list_any test (nodes.procs_of seats) ≡ true → (q : ℕ) × (has_place seats q ≡ true) × (test q ≡ true)
 member_found test [] e = absurd (let bad : false ≡ true = e in cc)
-member_found test (s ∷ seats) e = here (test s.1.0) refl e
+member_found test (s ∷ seats) e = here (member_found test seats) (test s.1.0) refl e
   where
     this : (a : ℕ) (b : Bool) → ((a == a) || b) ≡ true
     this a b = grind (arith, nat_tests)
@@ -113,9 +113,9 @@ member_found test (s ∷ seats) e = here (test s.1.0) refl e
     later : (a b : Bool) → b ≡ true → (a || b) ≡ true
     later a b e = grind (arith, nat_tests)
 
-    here : (b : Bool) → test s.1.0 ≡ b → (b || list_any test (nodes.procs_of seats)) ≡ true → (q : ℕ) × (has_place (s ∷ seats) q ≡ true) × (test q ≡ true)
-    here true is e = (s.1.0, this s.1.0 (has_place seats s.1.0), is)
-    here false is e = let r = member_found test seats e in (r.0, later (s.1.0 == r.0) (has_place seats r.0) r.1, r.2)
+    here : (list_any test (nodes.procs_of seats) ≡ true → (q : ℕ) × (has_place seats q ≡ true) × (test q ≡ true)) → (b : Bool) → test s.1.0 ≡ b → (b || list_any test (nodes.procs_of seats)) ≡ true → (q : ℕ) × (has_place (s ∷ seats) q ≡ true) × (test q ≡ true)
+    here rest true is e = (s.1.0, this s.1.0 (has_place seats s.1.0), is)
+    here rest false is e = let r = rest e in (r.0, later (s.1.0 == r.0) (has_place seats r.0) r.1, r.2)
 
 pair_same : (a b : ℕ) → ((a == a) && (b == b)) ≡ true
 pair_same a b = grind (arith, nat_tests)
@@ -340,14 +340,14 @@ module _ (job : Job) (asks : AsksNothing job) (w : World) (z : ℕ → ballot.Wo
   speaks_does old slots at e = record {
     said = text.Jest (suc d) (seat_of n.present n.me) slots ∷ [];
     to = member n.present;
-    after = after;
+    after = (after_turn w z p (record { phase = (turn_in (next_ballot n) n old).phase; poll = poll.SendEstimate slots }));
     fate_now = fate;
     steps = spoken_steps s w z fate p here h old at phase slots is;
     deems = spoken_deems s w z fate p here h old at phase slots is;
     saying = (said_true, tt);
-    sending = λ b. others_sent (IsTrue s (at_one d after z) fate p) (text.Jest (suc d) (seat_of n.present n.me) slots) said_true n.me b n.present;
+    sending = λ b. others_sent (IsTrue s (at_one d (after_turn w z p (record { phase = (turn_in (next_ballot n) n old).phase; poll = poll.SendEstimate slots })) z) fate p) (text.Jest (suc d) (seat_of n.present n.me) slots) said_true n.me b n.present;
     goes = tt;
-    links = silent_links (speaks (next_ballot n) n Joining phase slots) after (after_votes s w z fate p here h old at phase (poll.SendEstimate slots) is) (record { stand = b.stand; empty = b.empty });
+    links = silent_links (speaks (next_ballot n) n Joining phase slots) (after_turn w z p (record { phase = (turn_in (next_ballot n) n old).phase; poll = poll.SendEstimate slots })) (after_votes s w z fate p here h old at phase (poll.SendEstimate slots) is) (record { stand = b.stand; empty = b.empty });
     kills = refl;
   }
     where
@@ -360,16 +360,13 @@ module _ (job : Job) (asks : AsksNothing job) (w : World) (z : ℕ → ballot.Wo
       b : Waits job (l.stands p) n
       b = waiting old at
 
-      abbrev after : ballot.World
-      after = after_turn w z p (record { phase = (turn_in (next_ballot n) n old).phase; poll = poll.SendEstimate slots })
-
-      said_true : IsTrue s (at_one d after z) fate p (text.Jest (suc d) (seat_of n.present n.me) slots)
+      said_true : IsTrue s (at_one d (after_turn w z p (record { phase = (turn_in (next_ballot n) n old).phase; poll = poll.SendEstimate slots })) z) fate p (text.Jest (suc d) (seat_of n.present n.me) slots)
       said_true = record {
         era_then = era_of n;
         at = h.here p k.1;
         seated = (h.sane p k.1).mine k.0;
         round = ap (seat_of n.present) own;
-        said = ap (λ (o : ballot.World). estimate_of o p) (one_here d after z) ∙ spoken_said s w z fate p here h old at (turn_in (next_ballot n) n old).phase slots is;
+        said = ap (λ (o : ballot.World). estimate_of o p) (one_here d (after_turn w z p (record { phase = (turn_in (next_ballot n) n old).phase; poll = poll.SendEstimate slots })) z) ∙ spoken_said s w z fate p here h old at (turn_in (next_ballot n) n old).phase slots is;
       }
 
   ends_does : (old : Phase) (slots : List Slot) → n.stage ≡ Joining old → (turn_in (next_ballot n) n old).poll ≡ poll.Decided slots → is_end n slots ≡ true → Does job p (ends n) w z fate l
@@ -488,40 +485,40 @@ module _ (job : Job) (asks : AsksNothing job) (w : World) (z : ℕ → ballot.Wo
 
   -- ---- all deeds
 
-  pub deed_does : (act : Act) → Deed (job_setup job) (w.node p) act → Does job p act w z fate l
-  deed_does act (Joins kind why within) = joins_does kind why
-  deed_does act (Moves b at phase (OfEpoch old stage) e) = moves_does old stage e
-  deed_does act (Moves b at phase (OfCall v rest old i) e) = absurd (in_none _ v rest i)
-  deed_does act (Speaks b at phase slots (OfEpoch old stage) e) = speaks_does old slots stage e
-  deed_does act (Speaks b at phase slots (OfCall v rest old i) e) = absurd (in_none _ v rest i)
-  deed_does act (EndsAll phase slots at e last) = ends_does phase slots at e last
-  deed_does act (Repairs phase slots at e goes_on) = repairs_does phase slots at e goes_on
-  deed_does act (Inits at place) = inits_does at place
-  deed_does act (PassesOn rest at e) = passes_does rest at e
-  deed_does act (PrintsOut printed rest at e) = prints_does printed rest at e
-  deed_does act (IsRefused v rest r a e) = absurd (asks_none v rest a)
-  deed_does act (Attaches g m rest a may) = absurd (asks_none _ rest a)
-  deed_does act (Stores g m piece rest a may) = absurd (asks_none _ rest a)
-  deed_does act (Commits g rest a may) = absurd (asks_none _ rest a)
-  deed_does act (Restores g m stamp rest a may) = absurd (asks_none _ rest a)
-  deed_does act (EntersBarrier rest a) = absurd (asks_none _ rest a)
-  deed_does act (EntersReduction op value rest a) = absurd (asks_none _ rest a)
-  deed_does act (EntersShift by elements rest a) = absurd (asks_none _ rest a)
-  deed_does act (EntersAgreement flag rest a) = absurd (asks_none _ rest a)
-  deed_does act (EntersDeletion g stamp rest a may) = absurd (asks_none _ rest a)
-  deed_does act (EntersClosing g rest a may) = absurd (asks_none _ rest a)
-  deed_does act (EntersCreation g start depth rest a may) = absurd (asks_none _ rest a)
-  deed_does act (PassesBarrier rest i all) = absurd (in_none _ _ rest i)
-  deed_does act (Reduces op value rest i all) = absurd (in_none _ _ rest i)
-  deed_does act (Shifts by elements rest i all) = absurd (in_none _ _ rest i)
-  deed_does act (GathersNoMore v rest error kind i some e) = absurd (in_none _ v rest i)
-  deed_does act (VotesNo core v rest wait vote i at un) = absurd (in_none core v rest i)
-  deed_does act (VotesYes g rest i all) = absurd (in_none _ _ rest i)
-  deed_does act (VotesFresh g start depth rest i all none) = absurd (in_none _ _ rest i)
-  deed_does act (HelpsAndGives g start depth rest j i all known may) = absurd (in_none _ _ rest i)
-  deed_does act (VotesFinding g start depth rest j i known all) = absurd (in_none _ _ rest i)
-  deed_does act (ReturnsError v rest phase slots error i decided e) = absurd (in_none _ v rest i)
-  deed_does act (ReturnsBits flag rest slots i) = absurd (in_none _ _ rest i.within)
-  deed_does act (Closes g rest slots i) = absurd (in_none _ _ rest i.within)
-  deed_does act (Creates g start depth rest slots i) = absurd (in_none _ _ rest i.within)
-  deed_does act (Deletes g stamp rest slots i) = absurd (in_none _ _ rest i.within)
+  pub deed_does : (step : Act) → Deed (job_setup job) (w.node p) step → Does job p step w z fate l
+  deed_does step (Joins kind why within) = joins_does kind why
+  deed_does step (Moves b at phase (OfEpoch old stage) e) = moves_does old stage e
+  deed_does step (Moves b at phase (OfCall v rest old i) e) = absurd (in_none _ v rest i)
+  deed_does step (Speaks b at phase slots (OfEpoch old stage) e) = speaks_does old slots stage e
+  deed_does step (Speaks b at phase slots (OfCall v rest old i) e) = absurd (in_none _ v rest i)
+  deed_does step (EndsAll phase slots at e last) = ends_does phase slots at e last
+  deed_does step (Repairs phase slots at e goes_on) = repairs_does phase slots at e goes_on
+  deed_does step (Inits at place) = inits_does at place
+  deed_does step (PassesOn rest at e) = passes_does rest at e
+  deed_does step (PrintsOut printed rest at e) = prints_does printed rest at e
+  deed_does step (IsRefused v rest r a e) = absurd (asks_none v rest a)
+  deed_does step (Attaches g m rest a may) = absurd (asks_none _ rest a)
+  deed_does step (Stores g m piece rest a may) = absurd (asks_none _ rest a)
+  deed_does step (Commits g rest a may) = absurd (asks_none _ rest a)
+  deed_does step (Restores g m stamp rest a may) = absurd (asks_none _ rest a)
+  deed_does step (EntersBarrier rest a) = absurd (asks_none _ rest a)
+  deed_does step (EntersReduction op value rest a) = absurd (asks_none _ rest a)
+  deed_does step (EntersShift by elements rest a) = absurd (asks_none _ rest a)
+  deed_does step (EntersAgreement flag rest a) = absurd (asks_none _ rest a)
+  deed_does step (EntersDeletion g stamp rest a may) = absurd (asks_none _ rest a)
+  deed_does step (EntersClosing g rest a may) = absurd (asks_none _ rest a)
+  deed_does step (EntersCreation g start depth rest a may) = absurd (asks_none _ rest a)
+  deed_does step (PassesBarrier rest i all) = absurd (in_none _ _ rest i)
+  deed_does step (Reduces op value rest i all) = absurd (in_none _ _ rest i)
+  deed_does step (Shifts by elements rest i all) = absurd (in_none _ _ rest i)
+  deed_does step (GathersNoMore v rest error kind i some e) = absurd (in_none _ v rest i)
+  deed_does step (VotesNo core v rest wait vote i at un) = absurd (in_none core v rest i)
+  deed_does step (VotesYes g rest i all) = absurd (in_none _ _ rest i)
+  deed_does step (VotesFresh g start depth rest i all none) = absurd (in_none _ _ rest i)
+  deed_does step (HelpsAndGives g start depth rest j i all known may) = absurd (in_none _ _ rest i)
+  deed_does step (VotesFinding g start depth rest j i known all) = absurd (in_none _ _ rest i)
+  deed_does step (ReturnsError v rest phase slots error i decided e) = absurd (in_none _ v rest i)
+  deed_does step (ReturnsBits flag rest slots i) = absurd (in_none _ _ rest i.within)
+  deed_does step (Closes g rest slots i) = absurd (in_none _ _ rest i.within)
+  deed_does step (Creates g start depth rest slots i) = absurd (in_none _ _ rest i.within)
+  deed_does step (Deletes g stamp rest slots i) = absurd (in_none _ _ rest i.within)

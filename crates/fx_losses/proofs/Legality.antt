@@ -1,0 +1,142 @@
+-- The journal of a run with any events is legal, and shows all ends.
+use Rattle.std.proofs.lemmas.Bool.Decides.{nat_tests}
+use Rattle.std.proofs.lemmas.List.Elements.{filter-append}
+use Rattle.std.proofs.lemmas.Bool.{cases_eq}
+use Rattle.std.proofs.Common.{arith, ◌≡◌, ◌≢◌, ◌<◌, ℕ, zero, suc, Bool, true, false, ◌&&◌, ◌==◌, List, [], ◌∷◌, ◌++◌, map, Option, Some, None, inl, inr, refl, sym, ap, subst, ◌∙◌}
+use Rattle.std.specs.Prelude.{nat_lt, not, if◌then◌else◌}
+use Rattle.fx_ballot.specs.declared.heard.Heard.{Heard}
+use Rattle.fx_ballot.specs.Laws.{vote_of}
+use Rattle.fx_ballot.specs.World.{start, tells, kills, put}
+use Rattle.fx_ballot.specs.World as ballot
+use Rattle.fx_base.specs.Sets.{those_below}
+use Rattle.fx_ballot.specs.Names.{has}
+use Rattle.fx_check.specs.Work.{bound_of}
+use Rattle.fx_item.specs.declared.item.Item.{Item}
+use Rattle.fx_item.specs.declared.item.Item.TheVariants as item
+use Rattle.fx_link.specs.declared.slot.Slot.{Slot}
+use Rattle.fx_script.specs.declared.job.Job.{Job}
+use Rattle.fx_store.proofs.Mirrors.{each_at, each_from}
+use Rattle.fx_machine.specs.Messages.{message_of}
+use Rattle.fx_machine.specs.Nodes.{Node, Act, Stage, Begins, Joining, Arrived, Walking, Calling, Failed, Over, has_ended, first_node, receives, is_told}
+use Rattle.fx_machine.specs.Numbers.{proc}
+use Rattle.fx_machine.specs.Setup.{Setup}
+use Rattle.fx_machine.specs.Steps.{next}
+use Rattle.fx_machine.specs.Texts.{Text}
+use Rattle.fx_deeds.proofs.Every.{is_deed}
+use Rattle.fx_fleet.specs.Rounds.{all_over, whole, is_of_journal}
+use Rattle.fx_fleet.specs.Runs.{AsksNothing, job_setup, moments_of, rest_bound_of, journal_of}
+use Rattle.fx_fleet.specs.World.{World, first_world, up, send_item, does, receives_front, learns, loses}
+use Rattle.fx_calm.proofs.Lists.{Each, written_more, goes_on_more}
+use Rattle.fx_calm.proofs.Seats.{has_all}
+use Rattle.fx_calm.proofs.Standing.{noted}
+use Rattle.fx_calm.proofs.Steps.{key_same, key_other}
+use Rattle.fx_legal.specs.Effects.{due_kills, behind_first, written}
+use Rattle.fx_legal.specs.Groups.{at_key}
+use Rattle.fx_legal.specs.Ledger.{Chapter, Ledger, first_ledger, first_chapter, procs_of, kills_in}
+use Rattle.fx_legal.specs.Legal.{GoesOn, written_all, ledger_of, IsLegalWhole, AllHaveEnded}
+use Rattle.fx_legal.specs.Stands as stand
+use Rattle.fx_legal.specs.Stands.{Stand, is_killed, is_gone}
+use Rattle.fx_losses.specs.Eras.{Era, first_era, next_era, era}
+use Rattle.fx_losses.proofs.Deeds.{Does, deed_does}
+use Rattle.fx_losses.proofs.Eras.{era_grows, next_none}
+use Rattle.fx_losses.proofs.Events.{behind_delivery, deliver_shows, self_shows, got_own}
+use Rattle.fx_losses.proofs.Notices.{notice_shows, tells_vote, tells_estimate}
+use Rattle.fx_losses.proofs.Losses.{loses_others, loss_shows, kills_heard, slain_not, start_shows}
+use Rattle.fx_losses.proofs.Linked.{Linked, linked_step, linked_same}
+use Rattle.fx_losses.proofs.Moments.{IsKeptAlong, always_along}
+use Rattle.fx_losses.proofs.Moves.{shows_step}
+use Rattle.fx_losses.proofs.Schedule.{kills_of, kills_are, due_kept, due_first, first_due, due_past}
+use Rattle.fx_losses.proofs.Shows.{Shows, Truthful, up_parts}
+use Rattle.fx_losses.proofs.Standing.{Like, like_on, OfStage, AtStage, lives, gone_where_over, killed_is}
+use Rattle.fx_losses.proofs.Texts.{append_none, put_same, put_other, text_in, of_epoch}
+use Rattle.fx_losses.proofs.Truths.{truthful_grows, truthful_step, truthful_same, truthful_receives, truthful_learns, truthful_loses, truthful_first}
+use Rattle.fx_losses.proofs.Legally.{Legally, noted_more, gone_where_not_up}
+use Rattle.fx_losses.proofs.Legally.{acts_legally}
+use Rattle.fx_losses.proofs.Hearing.{hears_legally, tells_legally}
+use Rattle.fx_losses.proofs.Losing.{loses_legally}
+
+-- a kill of who isn't up any more is passed over
+passes_legally : (job : Job) (ps : List ℕ) (p : ℕ) (w : World) → p < procs_of job → up (job_setup job) w p ≡ false → Legally job (p ∷ ps) w → Legally job ps w
+passes_legally job ps p w few off is = record {
+  worlds = is.worlds;
+  fate = is.fate;
+  shows = is.shows;
+  truthful = is.truthful;
+  goes = is.goes;
+  linked = is.linked;
+  due = due_past (ledger_of job (noted w.items)).stands p (ledger_of job (noted w.items)).kills ps (gone_where_not_up job (ledger_of job (noted w.items)) w is.worlds is.fate is.linked p few ∙ ap not off) is.due;
+}
+
+-- ---- the start
+
+abbrev none_yet : ℕ → Option (List Slot)
+none_yet d = None
+
+begins : (job : Job) → Legally job (kills_of (moments_of job)) (first_world (job_setup job))
+begins job = record {
+  worlds = λ d. start;
+  fate = none_yet;
+  shows = start_shows (job_setup job);
+  truthful = truthful_first (job_setup job) (λ d. start) none_yet;
+  goes = tt;
+  linked = record {
+    killed = λ p. refl;
+    joined = λ d p. refl;
+    eras = eras;
+    stands = λ p e. record { stand = refl; empty = refl };
+  };
+  due = ap (due_kills (first_ledger job).stands) (kills_are job.events);
+}
+  where
+    below : (a b : ℕ) → nat_lt a b ≡ true → a < b
+    below a b e = grind (arith, nat_tests)
+
+    apart_zero : (e : ℕ) → (suc e == 0) ≡ false
+    apart_zero e = grind (arith, nat_tests)
+
+    eras : (d : ℕ) → Like (first_ledger job) d (era (first_era (job_setup job)) none_yet d) ((first_ledger job).chapters d)
+    eras zero = record {
+      comm = refl;
+      part = λ p e. has_all (procs_of job) p ∙ e;
+      rest = λ p a b. absurd (let bad : true ≡ false = sym a ∙ has_all (procs_of job) p ∙ b in cc);
+    }
+    eras (suc d) =
+        subst (λ (o : Option Chapter). Like (first_ledger job) (suc d) (era (first_era (job_setup job)) none_yet (suc d)) o) (ap (λ (b : Bool). if b then Some (first_chapter job) else None) (sym (apart_zero d)))
+        (subst (λ (o : Option Era). Like (first_ledger job) (suc d) o None) (sym (next_none d (era (first_era (job_setup job)) none_yet d))) tt)
+
+-- ---- the law
+
+kept : (job : Job) → AsksNothing job → IsKeptAlong (job_setup job) (Legally job)
+kept job asks = record {
+  acts = λ ps p w act on e is. acts_legally job asks ps p w act on e is;
+  hears = λ ps p q t rest w on e is. hears_legally job ps p q t rest w on e is;
+  tells = λ ps p q w dead is. tells_legally job ps p q w dead is;
+  loses = λ ps p w on is. loses_legally job ps p w on is;
+  passes = λ ps p w few off is. passes_legally job ps p w few off is;
+}
+
+-- each kill of the schedule is of a process of the job
+abbrev pub KillsProcesses : Job → Type 0
+KillsProcesses job = Each (λ p. p < procs_of job) (kills_of (moments_of job))
+
+pub legally : (job : Job) → AsksNothing job → KillsProcesses job → (fuel bound : ℕ) → Legally job [] (whole (job_setup job) fuel bound (moments_of job))
+legally job asks few fuel bound = always_along (job_setup job) (Legally job) (kept job asks) (moments_of job) few (begins job) fuel bound
+
+pub is_legal : (job : Job) → AsksNothing job → KillsProcesses job → IsLegalWhole job (journal_of job)
+is_legal job asks few = let is = legally job asks few (rest_bound_of job) (bound_of job) in (is.goes, is.due)
+
+-- the world behind the whole run
+abbrev last : Job → World
+last job = whole (job_setup job) (rest_bound_of job) (bound_of job) (moments_of job)
+
+pub shows_all_ends : (job : Job) → AsksNothing job → KillsProcesses job → all_over (job_setup job) (last job) ≡ true → AllHaveEnded job (journal_of job)
+shows_all_ends job asks few over p below =
+    let is = legally job asks few (rest_bound_of job) (bound_of job) in
+    gone_where_not_up job (ledger_of job (journal_of job)) (last job) is.worlds is.fate is.linked p below ∙ each_at (procs_of job) (λ q. not (up (job_setup job) (last job) q)) p over below
+
+pub shows_true_ends : (job : Job) → AsksNothing job → KillsProcesses job → AllHaveEnded job (journal_of job) → all_over (job_setup job) (last job) ≡ true
+shows_true_ends job asks few ended =
+    each_from (procs_of job) (λ q. not (up (job_setup job) (last job) q))
+    (λ q below.
+    let is = legally job asks few (rest_bound_of job) (bound_of job) in
+    sym (gone_where_not_up job (ledger_of job (journal_of job)) (last job) is.worlds is.fate is.linked q below) ∙ ended q below)

@@ -1,0 +1,136 @@
+-- Worlds whose journal is legal; a step keeps that.
+use Rattle.std.proofs.lemmas.Bool.Decides.{nat_tests}
+use Rattle.std.proofs.lemmas.List.Elements.{filter-append}
+use Rattle.std.proofs.lemmas.Bool.{cases_eq}
+use Rattle.std.proofs.Common.{arith, ◌≡◌, ◌≢◌, ◌<◌, ℕ, zero, suc, Bool, true, false, ◌&&◌, ◌==◌, List, [], ◌∷◌, ◌++◌, map, Option, Some, None, inl, inr, refl, sym, ap, subst, ◌∙◌}
+use Rattle.std.specs.Prelude.{nat_lt, not, if◌then◌else◌}
+use Rattle.fx_ballot.specs.declared.heard.Heard.{Heard}
+use Rattle.fx_ballot.specs.Laws.{vote_of}
+use Rattle.fx_ballot.specs.World.{start, tells, kills, put}
+use Rattle.fx_ballot.specs.World as ballot
+use Rattle.fx_base.specs.Sets.{those_below}
+use Rattle.fx_ballot.specs.Names.{has}
+use Rattle.fx_check.specs.Work.{bound_of}
+use Rattle.fx_item.specs.declared.item.Item.{Item}
+use Rattle.fx_item.specs.declared.item.Item.TheVariants as item
+use Rattle.fx_link.specs.declared.slot.Slot.{Slot}
+use Rattle.fx_script.specs.declared.job.Job.{Job}
+use Rattle.fx_store.proofs.Mirrors.{each_at, each_from}
+use Rattle.fx_machine.specs.Messages.{message_of}
+use Rattle.fx_machine.specs.Nodes.{Node, Act, Stage, Begins, Joining, Arrived, Walking, Calling, Failed, Over, has_ended, first_node, receives, is_told}
+use Rattle.fx_machine.specs.Numbers.{proc}
+use Rattle.fx_machine.specs.Setup.{Setup}
+use Rattle.fx_machine.specs.Steps.{next}
+use Rattle.fx_machine.specs.Texts.{Text}
+use Rattle.fx_deeds.proofs.Every.{is_deed}
+use Rattle.fx_fleet.specs.Rounds.{all_over, whole, is_of_journal}
+use Rattle.fx_fleet.specs.Runs.{AsksNothing, job_setup, moments_of, rest_bound_of, journal_of}
+use Rattle.fx_fleet.specs.World.{World, first_world, up, send_item, does, receives_front, learns, loses}
+use Rattle.fx_calm.proofs.Lists.{Each, written_more, goes_on_more}
+use Rattle.fx_calm.proofs.Seats.{has_all}
+use Rattle.fx_calm.proofs.Standing.{noted}
+use Rattle.fx_calm.proofs.Steps.{key_same, key_other}
+use Rattle.fx_legal.specs.Effects.{due_kills, behind_first, written}
+use Rattle.fx_legal.specs.Groups.{at_key}
+use Rattle.fx_legal.specs.Ledger.{Chapter, Ledger, first_ledger, first_chapter, procs_of, kills_in}
+use Rattle.fx_legal.specs.Legal.{GoesOn, written_all, ledger_of, IsLegalWhole, AllHaveEnded}
+use Rattle.fx_legal.specs.Stands as stand
+use Rattle.fx_legal.specs.Stands.{Stand, is_killed, is_gone}
+use Rattle.fx_losses.specs.Eras.{Era, first_era, next_era, era}
+use Rattle.fx_losses.proofs.Deeds.{Does, deed_does}
+use Rattle.fx_losses.proofs.Eras.{era_grows, next_none}
+use Rattle.fx_losses.proofs.Events.{behind_delivery, deliver_shows, self_shows, got_own}
+use Rattle.fx_losses.proofs.Notices.{notice_shows, tells_vote, tells_estimate}
+use Rattle.fx_losses.proofs.Losses.{loses_others, loss_shows, kills_heard, slain_not, start_shows}
+use Rattle.fx_losses.proofs.Linked.{Linked, linked_step, linked_same}
+use Rattle.fx_losses.proofs.Moments.{IsKeptAlong, always_along}
+use Rattle.fx_losses.proofs.Moves.{shows_step}
+use Rattle.fx_losses.proofs.Schedule.{kills_of, kills_are, due_kept, due_first, first_due, due_past}
+use Rattle.fx_losses.proofs.Shows.{Shows, Truthful, up_parts}
+use Rattle.fx_losses.proofs.Standing.{Like, like_on, OfStage, AtStage, lives, gone_where_over, killed_is}
+use Rattle.fx_losses.proofs.Texts.{append_none, put_same, put_other, text_in, of_epoch}
+use Rattle.fx_losses.proofs.Truths.{truthful_grows, truthful_step, truthful_same, truthful_receives, truthful_learns, truthful_loses, truthful_first}
+
+-- a world whose journal is legal, where these kills are still to come
+pub record Legally (job : Job) (ps : List ℕ) (w : World) : Type 0 where
+  pub worlds : ℕ → ballot.World
+  pub fate : ℕ → Option (List Slot)
+  pub shows : Shows (job_setup job) w worlds fate
+  pub truthful : Truthful (job_setup job) w worlds fate
+  pub goes : GoesOn job (first_ledger job) (noted w.items)
+  pub linked : Linked job w worlds fate (ledger_of job (noted w.items))
+  pub due : due_kills (ledger_of job (noted w.items)).stands (ledger_of job (noted w.items)).kills ≡ due_kills (ledger_of job (noted w.items)).stands ps
+
+-- sends stand in no journal
+none_sent : (p : ℕ) (sends : List (ℕ × Text)) → noted (map (send_item p) sends) ≡ []
+none_sent p [] = refl
+none_sent p (x ∷ sends) = none_sent p sends
+
+pub noted_more : (p : ℕ) (before items : List Item) (sends : List (ℕ × Text)) → noted (before ++ (items ++ map (send_item p) sends)) ≡ noted before ++ noted items
+noted_more p before items sends =
+    filter-append is_of_journal before (items ++ map (send_item p) sends)
+    ∙ ap (λ (l : List Item). noted before ++ l)
+    (filter-append is_of_journal items (map (send_item p) sends) ∙ ap (λ (l : List Item). noted items ++ l) (none_sent p sends) ∙ append_none (noted items))
+
+-- a process of the job is gone by the ledger just where it isn't up
+pub gone_where_not_up : (job : Job) (l : Ledger) (w : World) (z : ℕ → ballot.World) (fate : ℕ → Option (List Slot)) → Linked job w z fate l → (p : ℕ) → p < procs_of job → is_gone (l.stands p) ≡ not (up (job_setup job) w p)
+gone_where_not_up job l w z fate t p few = of (w.killed p) refl
+  where
+    less_true : (a b : ℕ) → a < b → nat_lt a b ≡ true
+    less_true a b e = grind (arith, nat_tests, e)
+
+    dead : (a c : Bool) → true ≡ not (a && (not true && c))
+    dead true c = refl
+    dead false c = refl
+
+    alive : (a c : Bool) → a ≡ true → c ≡ not (a && (not false && not c))
+    alive true true e = refl
+    alive true false e = refl
+    alive false c e = absurd (let bad : false ≡ true = e in cc)
+
+    of : (b : Bool) → w.killed p ≡ b → is_gone (l.stands p) ≡ not (up (job_setup job) w p)
+    of true e =
+        ap is_gone (killed_is (l.stands p) (t.killed p ∙ e)) ∙ dead (nat_lt p (procs_of job)) (not (has_ended (w.node p)))
+        ∙ ap (λ (b : Bool). not (nat_lt p (procs_of job) && (not b && not (has_ended (w.node p))))) (sym e)
+    of false e =
+        gone_where_over job (l.stands p) (w.node p) (t.stands p e) ∙ alive (nat_lt p (procs_of job)) (has_ended (w.node p)) (less_true p (procs_of job) few)
+        ∙ ap (λ (b : Bool). not (nat_lt p (procs_of job) && (not b && not (has_ended (w.node p))))) (sym e)
+
+-- ---- a step
+
+module _ (job : Job) (asks : AsksNothing job) (ps : List ℕ) (p : ℕ) (w : World) (act : Act) (on : up (job_setup job) w p ≡ true) (e : next (job_setup job) (w.node p) ≡ Some act) (is : Legally job ps w) where
+  abbrev s : Setup
+  s = job_setup job
+
+  abbrev l : Ledger
+  l = ledger_of job (noted w.items)
+
+  abbrev m : Ledger
+  m = written_all job l (noted act.items)
+
+  o : Does job p act w is.worlds is.fate l
+  o = deed_does job asks w is.worlds is.fate l p on is.shows is.truthful is.linked act (is_deed s (w.node p) act e)
+
+  more : noted (does s p act w).items ≡ noted w.items ++ noted act.items
+  more = noted_more p w.items act.items act.sends
+
+  ledger_now : ledger_of job (noted (does s p act w).items) ≡ m
+  ledger_now = ap (ledger_of job) more ∙ written_more job (first_ledger job) (noted w.items) (noted act.items)
+
+  stays : is_gone (l.stands p) ≡ false
+  stays = let k = up_parts s w p on in gone_where_over job (l.stands p) (w.node p) (is.linked.stands p k.1) ∙ k.2
+
+  grows : (q : ℕ) → is_gone (l.stands q) ≡ true → is_gone (m.stands q) ≡ true
+  grows q gone = ap is_gone (o.links.stands q (λ same. let bad : true ≡ false = sym (subst (λ x. is_gone (l.stands x) ≡ true) same gone) ∙ stays in cc)) ∙ gone
+
+  pub acts_legally : Legally job ps (does (job_setup job) p act w)
+  acts_legally = record {
+    worlds = _;
+    fate = o.fate_now;
+    shows = shows_step s p act o.said o.to w is.worlds is.fate o.fate_now o.after on o.steps o.deems is.shows;
+    truthful = truthful_step s p act o.said o.to w is.worlds is.fate o.fate_now o.after on o.steps is.shows (λ d x i. era_grows (first_era s) is.fate o.fate_now o.deems.grows d x i) o.saying o.sending is.truthful;
+    goes = subst (GoesOn job (first_ledger job)) (sym more) (goes_on_more job (first_ledger job) (noted w.items) (noted act.items) is.goes o.goes);
+    linked = subst (Linked job (does s p act w) _ o.fate_now) (sym ledger_now) (linked_step job p act w is.worlds is.fate o.fate_now o.after l m (up_parts s w p on).1 o.links is.linked);
+    due = subst (λ (x : Ledger). due_kills x.stands x.kills ≡ due_kills x.stands ps) (sym ledger_now)
+        (ap (due_kills m.stands) o.kills ∙ due_kept l.stands m.stands grows l.kills ps is.due);
+  }

@@ -1,0 +1,119 @@
+-- The kills of the schedule keep that the journal is legal.
+use Rattle.std.proofs.lemmas.Bool.Decides.{nat_tests}
+use Rattle.std.proofs.lemmas.List.Elements.{filter-append}
+use Rattle.std.proofs.lemmas.Bool.{cases_eq}
+use Rattle.std.proofs.Common.{arith, ◌≡◌, ◌≢◌, ◌<◌, ℕ, zero, suc, Bool, true, false, ◌&&◌, ◌==◌, List, [], ◌∷◌, ◌++◌, map, Option, Some, None, inl, inr, refl, sym, ap, subst, ◌∙◌}
+use Rattle.std.specs.Prelude.{nat_lt, not, if◌then◌else◌}
+use Rattle.fx_ballot.specs.declared.heard.Heard.{Heard}
+use Rattle.fx_ballot.specs.Laws.{vote_of}
+use Rattle.fx_ballot.specs.World.{start, tells, kills, put}
+use Rattle.fx_ballot.specs.World as ballot
+use Rattle.fx_base.specs.Sets.{those_below}
+use Rattle.fx_ballot.specs.Names.{has}
+use Rattle.fx_check.specs.Work.{bound_of}
+use Rattle.fx_item.specs.declared.item.Item.{Item}
+use Rattle.fx_item.specs.declared.item.Item.TheVariants as item
+use Rattle.fx_link.specs.declared.slot.Slot.{Slot}
+use Rattle.fx_script.specs.declared.job.Job.{Job}
+use Rattle.fx_store.proofs.Mirrors.{each_at, each_from}
+use Rattle.fx_machine.specs.Messages.{message_of}
+use Rattle.fx_machine.specs.Nodes.{Node, Act, Stage, Begins, Joining, Arrived, Walking, Calling, Failed, Over, has_ended, first_node, receives, is_told}
+use Rattle.fx_machine.specs.Numbers.{proc}
+use Rattle.fx_machine.specs.Setup.{Setup}
+use Rattle.fx_machine.specs.Steps.{next}
+use Rattle.fx_machine.specs.Texts.{Text}
+use Rattle.fx_deeds.proofs.Every.{is_deed}
+use Rattle.fx_fleet.specs.Rounds.{all_over, whole, is_of_journal}
+use Rattle.fx_fleet.specs.Runs.{AsksNothing, job_setup, moments_of, rest_bound_of, journal_of}
+use Rattle.fx_fleet.specs.World.{World, first_world, up, send_item, does, receives_front, learns, loses}
+use Rattle.fx_calm.proofs.Lists.{Each, written_more, goes_on_more}
+use Rattle.fx_calm.proofs.Seats.{has_all}
+use Rattle.fx_calm.proofs.Standing.{noted}
+use Rattle.fx_calm.proofs.Steps.{key_same, key_other}
+use Rattle.fx_legal.specs.Effects.{due_kills, behind_first, written}
+use Rattle.fx_legal.specs.Groups.{at_key}
+use Rattle.fx_legal.specs.Ledger.{Chapter, Ledger, first_ledger, first_chapter, procs_of, kills_in}
+use Rattle.fx_legal.specs.Legal.{GoesOn, written_all, ledger_of, IsLegalWhole, AllHaveEnded}
+use Rattle.fx_legal.specs.Stands as stand
+use Rattle.fx_legal.specs.Stands.{Stand, is_killed, is_gone}
+use Rattle.fx_losses.specs.Eras.{Era, first_era, next_era, era}
+use Rattle.fx_losses.proofs.Deeds.{Does, deed_does}
+use Rattle.fx_losses.proofs.Eras.{era_grows, next_none}
+use Rattle.fx_losses.proofs.Events.{behind_delivery, deliver_shows, self_shows, got_own}
+use Rattle.fx_losses.proofs.Notices.{notice_shows, tells_vote, tells_estimate}
+use Rattle.fx_losses.proofs.Losses.{loses_others, loss_shows, kills_heard, slain_not, start_shows}
+use Rattle.fx_losses.proofs.Linked.{Linked, linked_step, linked_same}
+use Rattle.fx_losses.proofs.Moments.{IsKeptAlong, always_along}
+use Rattle.fx_losses.proofs.Moves.{shows_step}
+use Rattle.fx_losses.proofs.Schedule.{kills_of, kills_are, due_kept, due_first, first_due, due_past}
+use Rattle.fx_losses.proofs.Shows.{Shows, Truthful, up_parts}
+use Rattle.fx_losses.proofs.Standing.{Like, like_on, OfStage, AtStage, lives, gone_where_over, killed_is}
+use Rattle.fx_losses.proofs.Texts.{append_none, put_same, put_other, text_in, of_epoch}
+use Rattle.fx_losses.proofs.Truths.{truthful_grows, truthful_step, truthful_same, truthful_receives, truthful_learns, truthful_loses, truthful_first}
+use Rattle.fx_losses.proofs.Legally.{Legally, noted_more, gone_where_not_up}
+
+-- ---- a loss
+
+module _ (job : Job) (ps : List ℕ) (p : ℕ) (w : World) (on : up (job_setup job) w p ≡ true) (is : Legally job (p ∷ ps) w) where
+  abbrev s : Setup
+  s = job_setup job
+
+  abbrev v : World
+  v = loses s p w
+
+  abbrev l : Ledger
+  l = ledger_of job (noted w.items)
+
+  abbrev m : Ledger
+  m = written job l (item.Kill (proc p))
+
+  k : (p < s.procs) × (w.killed p ≡ false) × (has_ended (w.node p) ≡ false)
+  k = up_parts s w p on
+
+  told : noted v.items ≡ noted w.items ++ item.Kill (proc p) ∷ []
+  told = filter-append is_of_journal w.items (item.Kill (proc p) ∷ [])
+
+  ledger_now : ledger_of job (noted v.items) ≡ m
+  ledger_now = ap (ledger_of job) told ∙ written_more job (first_ledger job) (noted w.items) (item.Kill (proc p) ∷ [])
+
+  stays : is_gone (l.stands p) ≡ false
+  stays = gone_where_over job (l.stands p) (w.node p) (is.linked.stands p k.1) ∙ k.2
+
+  first : due_kills l.stands l.kills ≡ p ∷ ps
+  first = due_first l.stands p l.kills ps stays is.due
+
+  dead_now : m.stands p ≡ stand.Killed
+  dead_now = key_same p stand.Killed l.stands
+
+  others : (q : ℕ) → q ≢ p → m.stands q ≡ l.stands q
+  others q ne = key_other p stand.Killed l.stands q ne
+
+  still_dead : (q : ℕ) → is_killed (l.stands q) ≡ true → is_killed (m.stands q) ≡ true
+  still_dead q e = elim (cases_eq q p) [
+    | inl same ↦ ap (λ (o : ℕ). is_killed (m.stands o)) same ∙ ap is_killed dead_now
+    | inr ne ↦ ap is_killed (others q ne) ∙ e
+  ]
+
+  linked_now : Linked job v (λ d. kills p (is.worlds d)) is.fate m
+  linked_now = record {
+    killed = λ q. elim (cases_eq q p) [
+      | inl same ↦ subst (λ o. is_killed (m.stands o) ≡ put w.killed p true o) (sym same) (ap is_killed dead_now ∙ sym (put_same w.killed p true))
+      | inr ne ↦ ap is_killed (others q ne) ∙ is.linked.killed q ∙ sym (put_other w.killed p q true ne)
+    ];
+    joined = λ d q. is.linked.joined d q ∙ ap (λ (x : Heard). x.vote) (sym (kills_heard p q q (is.worlds d)));
+    eras = λ d. like_on l m d (era (first_era s) is.fate d) (l.chapters d) still_dead (λ q e none. none) (is.linked.eras d);
+    stands = λ q e.
+        let n = slain_not p q w.killed e in
+        subst (λ (x : Stand). AtStage job x (v.node q)) (sym (others q n.0)) (subst (AtStage job (l.stands q)) (sym (loses_others s p w is.worlds is.fate is.shows q n.0)) (is.linked.stands q n.1));
+  }
+
+  pub loses_legally : Legally job ps (loses (job_setup job) p w)
+  loses_legally = record {
+    worlds = λ d. kills p (is.worlds d);
+    fate = is.fate;
+    shows = loss_shows s p w is.worlds is.fate is.shows;
+    truthful = truthful_same s is.worlds (λ d. kills p (is.worlds d)) is.fate v (λ d q. kills_heard p q q (is.worlds d)) (truthful_loses s is.worlds is.fate p w is.truthful);
+    goes = subst (GoesOn job (first_ledger job)) (sym told) (goes_on_more job (first_ledger job) (noted w.items) (item.Kill (proc p) ∷ []) is.goes ((k.0, first_due p (due_kills l.stands l.kills) ps first), tt));
+    linked = subst (Linked job v (λ d. kills p (is.worlds d)) is.fate) (sym ledger_now) linked_now;
+    due = subst (λ (x : Ledger). due_kills x.stands x.kills ≡ due_kills x.stands ps) (sym ledger_now) (ap (λ (xs : List ℕ). due_kills m.stands (behind_first xs)) first);
+  }
