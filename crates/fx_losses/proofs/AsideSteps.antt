@@ -33,8 +33,8 @@ true_of_calls s z fate c (text.Tell e k known) is = tt
 true_of_calls s z fate c (text.Help e k packed) is = tt
 true_of_calls s z fate c (text.Give e k packed) is = tt
 
-all_true : (s : Setup) (z : ℕ → ballot.World) (fate : ℕ → Option (List Slot)) (c : ℕ) (texts : List Text) → Each (λ t. is_of_epoch t ≡ false) texts → Each (IsTrue s z fate c) texts
-all_true s z fate c texts all = each_weaker (λ t. is_of_epoch t ≡ false) (IsTrue s z fate c) (true_of_calls s z fate c) texts all
+pub aside_true : (s : Setup) (z : ℕ → ballot.World) (fate : ℕ → Option (List Slot)) (c : ℕ) (texts : List Text) → Each (λ t. is_of_epoch t ≡ false) texts → Each (IsTrue s z fate c) texts
+aside_true s z fate c texts all = each_weaker (λ t. is_of_epoch t ≡ false) (IsTrue s z fate c) (true_of_calls s z fate c) texts all
 
 module _ (s : Setup) (p : ℕ) (act : Act) (w : World) (z : ℕ → ballot.World) (fate : ℕ → Option (List Slot)) (here : up s w p ≡ true) (h : Shows s w z fate) (is : IsAside s p (w.node p) act) where
   pub aside_steps : Steps s p act is.said (λ b. false) w z (z (w.node p).epoch)
@@ -54,5 +54,5 @@ module _ (s : Setup) (p : ℕ) (act : Act) (w : World) (z : ℕ → ballot.World
   aside_truthful t =
       subst (λ (y : ℕ → ballot.World). Truthful s (does s p act w) y fate) (same_ballots (w.node p).epoch z)
       (truthful_step s p act is.said (λ b. false) w z fate fate (z (w.node p).epoch) here aside_steps h (λ d x e. e)
-      (all_true s (at_one (w.node p).epoch (z (w.node p).epoch) z) fate p is.said is.of_calls)
-      (λ b. all_true s (at_one (w.node p).epoch (z (w.node p).epoch) z) fate p _ (is.sends b)) t)
+      (aside_true s (at_one (w.node p).epoch (z (w.node p).epoch) z) fate p is.said is.of_calls)
+      (λ b. aside_true s (at_one (w.node p).epoch (z (w.node p).epoch) z) fate p _ (is.sends b)) t)

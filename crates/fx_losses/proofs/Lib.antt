@@ -29,3 +29,4 @@ pub mod Gone
 pub mod Sparing
 pub mod Asides
 pub mod AsideSteps
+pub mod Showing
