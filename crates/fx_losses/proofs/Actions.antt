@@ -1,35 +1,32 @@
 -- What joins are in the ballot at the end of an epoch.
-use Rattle.std.proofs.Common.{◌≡◌, ℕ, ◌<◌, ◌≢◌, ◌==◌, zero, suc, Bool, true, false, cond, ◌||◌, ◌&&◌, List, [], ◌∷◌, ◌++◌, map, length, Option, Some, None, inl, inr, arith, refl, subst, sym, ◌∙◌, ap}
-use Rattle.std.specs.Prelude.{if◌then◌else◌, not, nat_lt}
+use Rattle.std.proofs.Common.{◌≡◌, ℕ, ◌<◌, ◌≢◌, ◌==◌, suc, Bool, true, false, ◌||◌, List, [], ◌∷◌, ◌++◌, map, length, Option, Some, None, inl, inr, arith, refl, subst, sym, ◌∙◌, ap}
+use Rattle.std.specs.Prelude.{if◌then◌else◌, not}
 use Rattle.std.specs.List.{filter}
 use Rattle.std.proofs.lemmas.Bool.Decides.{nat_tests}
-use Rattle.std.proofs.lemmas.Bool.{cond_both, cases_eq}
+use Rattle.std.proofs.lemmas.Bool.{cases_eq}
 use Rattle.fx_ballot.specs.declared.heard.Heard.{Heard}
-use Rattle.fx_ballot.specs.declared.poll.Poll.{Poll}
-use Rattle.fx_ballot.specs.declared.poll.Poll.TheVariants as poll
-use Rattle.fx_ballot.specs.Laws.{past, vote_of, estimate_of}
+use Rattle.fx_ballot.specs.Laws.{vote_of}
 use Rattle.fx_ballot.specs.Names.{seat_at, seat_of, has, Distinct}
-use Rattle.fx_ballot.specs.Turn.{Phase, Outside, Voting, Round, Decided, Message, Vote, Estimate, earliest, hear, Turn, turn, form, speak, follow, decide, slots_of}
+use Rattle.fx_ballot.specs.Turn.{Phase, Outside, Voting, Decided, Message, Vote, earliest, hear}
 use Rattle.fx_ballot.specs.World.{Member, put, stays, is_outside, among, Apart, own_after, sent_by, told_all, enters}
 use Rattle.fx_ballot.specs.World as ballot
-use Rattle.fx_ballot.proofs.Face.{Blank, sound_enter, sound_blank, caught_blank, caught_enter, sound_act, caught_act}
-use Rattle.fx_ballot.proofs.Names.{seat_found, names_apart, names_members}
+use Rattle.fx_ballot.proofs.Face.{Blank, sound_enter, sound_blank, caught_blank, caught_enter}
+use Rattle.fx_ballot.proofs.Names.{seat_found, names_members}
 use Rattle.fx_ballot.proofs.Runs.{Kept}
-use Rattle.fx_comm.specs.Seats.{has_place}
 use Rattle.fx_item.specs.declared.item.Item.{Item}
 use Rattle.fx_link.specs.declared.slot.Slot.{Slot}
-use Rattle.fx_machine.specs.Ballots.{joined, moves, speaks}
-use Rattle.fx_machine.specs.Nodes.{Node, Act, Stage, Joining, has_ended, to_others, keeping, writing, silently, saying}
-use Rattle.fx_machine.specs.Reading.{is_join, next_ballot}
+use Rattle.fx_machine.specs.Ballots.{joined}
+use Rattle.fx_machine.specs.Nodes.{Node, Act, Joining, has_ended, to_others, writing, saying}
+use Rattle.fx_machine.specs.Reading.{is_join}
 use Rattle.fx_machine.specs.Setup.{Setup}
 use Rattle.fx_machine.specs.Texts as text
 use Rattle.fx_machine.specs.Texts.{Text}
-use Rattle.fx_fleet.specs.World.{World, up, sent_to, does}
+use Rattle.fx_fleet.specs.World.{World, up, sent_to}
 use Rattle.fx_losses.specs.Eras.{Era, first_era, era_of, era}
 use Rattle.fx_losses.proofs.Eras.{era_distinct}
-use Rattle.fx_losses.proofs.Moves.{Move, Steps, Deems, quiet_move, some_era}
-use Rattle.fx_losses.proofs.Shows.{phase_of, is_begin, is_later, is_placed, is_decided, Fits, At, Owes, Sane, role_after, Shows, up_parts, now_at}
-use Rattle.fx_losses.proofs.Texts.{append_none, put_same, put_other, of_epoch, heard_of, shown, this_vote, other_vote, this_estimate, other_estimate, Acted, shown_rest, shown_own, shown_quiet, told_none}
+use Rattle.fx_losses.proofs.Moves.{Steps, Deems, quiet_move, some_era}
+use Rattle.fx_losses.proofs.Shows.{phase_of, is_begin, is_later, is_placed, is_decided, Fits, Owes, Sane, Shows, up_parts, now_at}
+use Rattle.fx_losses.proofs.Texts.{append_none, put_same, put_other, of_epoch, heard_of, shown, this_vote, other_vote, Acted, shown_rest, shown_own}
 
 -- a process of the list, as the ballot world tests it
 abbrev pub member : List ℕ → ℕ → Bool

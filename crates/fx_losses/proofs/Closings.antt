@@ -1,5 +1,5 @@
 -- Decisions and the ledger: a repaired epoch, and the end.
-use Rattle.std.proofs.Common.{◌≡◌, ℕ, ◌<◌, ◌≤◌, ◌≢◌, ◌==◌, ◌-◌, zero, suc, Bool, true, false, cond, ◌||◌, ◌&&◌, List, [], ◌∷◌, length, Option, Some, None, ◌⊎◌, inl, inr, arith, refl, subst, sym, ◌∙◌, ap}
+use Rattle.std.proofs.Common.{◌≡◌, ℕ, ◌<◌, ◌≤◌, ◌≢◌, ◌==◌, ◌-◌, zero, suc, Bool, true, false, ◌||◌, ◌&&◌, List, [], ◌∷◌, length, Option, Some, None, ◌⊎◌, inl, inr, arith, refl, subst, sym, ◌∙◌, ap}
 use Rattle.std.specs.Prelude.{if◌then◌else◌, not, nat_lt, is_some, get_or}
 use Rattle.std.specs.List.{list_all}
 use Rattle.std.proofs.lemmas.Bool.Decides.{nat_tests}
@@ -22,7 +22,7 @@ use Rattle.fx_link.specs.declared.slot.Slot.{Slot}
 use Rattle.fx_link.specs.declared.slot.Slot.TheVariants as slot
 use Rattle.fx_script.specs.declared.job.Job.{Job}
 use Rattle.fx_walk.specs.State.{State, blank}
-use Rattle.fx_machine.specs.Ballots.{voters, is_final, arrived, repairs, ends, warns}
+use Rattle.fx_machine.specs.Ballots.{voters, is_final, arrived, repairs, ends}
 use Rattle.fx_machine.specs.Nodes as nodes
 use Rattle.fx_machine.specs.Nodes.{Node, Joining, Over, has_ended, size, my_place, state_of}
 use Rattle.fx_machine.specs.Numbers.{proc, epoch_no}
@@ -41,15 +41,14 @@ use Rattle.fx_legal.specs.Stands as stand
 use Rattle.fx_legal.specs.Stands.{Stand, is_killed, is_gone}
 use Rattle.fx_losses.specs.Eras.{Era, first_era, era_of, is_last, next_of, next_era, era}
 use Rattle.fx_losses.proofs.Turns.{after_turn, shown_turn, after_other, after_votes, after_living, after_gone}
-use Rattle.fx_losses.proofs.Decides as decides
-use Rattle.fx_losses.proofs.Decides.{sealed, next_node, agrees, true_slots, sealed_here, own_voter, next_era_is}
+use Rattle.fx_losses.proofs.Decides.{agrees, true_slots, sealed_here, own_voter, next_era_is}
 use Rattle.fx_losses.proofs.Eras.{next_none, era_before, era_dead, era_distinct, voters_among}
 use Rattle.fx_losses.proofs.Finals.{all_final_voted}
 use Rattle.fx_losses.proofs.Linked.{Linked, Links, unjoined, own_chapter}
 use Rattle.fx_losses.proofs.Moves.{some_era}
 use Rattle.fx_losses.proofs.Places.{place_is, keeps_place}
-use Rattle.fx_losses.proofs.Shows.{role_after, EndedAs, Shows, up_parts}
-use Rattle.fx_losses.proofs.Standing.{LikeEra, Like, Liked, liked, unliked, unborn_too, like_on, opening, Waits, Settled, OfStage, AtStage, gone_where_over}
+use Rattle.fx_losses.proofs.Shows.{EndedAs, Shows, up_parts}
+use Rattle.fx_losses.proofs.Standing.{LikeEra, Like, Liked, liked, unliked, unborn_too, like_on, Waits, Settled, OfStage, AtStage, gone_where_over}
 use Rattle.fx_losses.proofs.Texts.{put_same, put_other}
 use Rattle.fx_losses.proofs.Votes.{Slotted, alive_slot, alive_voter, voter_voted}
 

@@ -1,22 +1,21 @@
 -- A decision: an epoch is born, or a node ends.
-use Rattle.std.proofs.Common.{◌≡◌, ℕ, ◌<◌, ◌≢◌, ◌==◌, zero, suc, Bool, true, false, cond, List, [], length, Option, Some, None, inl, inr, arith, refl, subst, sym, ◌∙◌, ap}
-use Rattle.std.specs.Prelude.{if◌then◌else◌, not}
+use Rattle.std.proofs.Common.{◌≡◌, ℕ, ◌<◌, ◌≢◌, ◌==◌, zero, suc, Bool, true, false, List, [], length, Option, Some, None, inl, inr, arith, refl, subst, sym, ◌∙◌, ap}
+use Rattle.std.specs.Prelude.{if◌then◌else◌}
 use Rattle.std.proofs.lemmas.Bool.Decides.{nat_tests}
 use Rattle.std.proofs.lemmas.Bool.{cases_eq, cond-false}
-use Rattle.fx_base.specs.declared.names.Role.{Role}
 use Rattle.fx_base.specs.declared.names.Role.TheVariants as role
 use Rattle.fx_ballot.specs.declared.poll.Poll.TheVariants as poll
 use Rattle.fx_ballot.specs.Laws.{vote_of, held, TrueSlots}
-use Rattle.fx_ballot.specs.Names.{seat_at, seat_of, has}
-use Rattle.fx_ballot.specs.Turn.{Phase, Outside, Decided}
+use Rattle.fx_ballot.specs.Names.{seat_at, has}
+use Rattle.fx_ballot.specs.Turn.{Phase, Decided}
 use Rattle.fx_ballot.specs.World.{Member, put}
 use Rattle.fx_ballot.specs.World as ballot
 use Rattle.fx_ballot.proofs.Runs.{Kept}
 use Rattle.fx_comm.specs.Seats.{has_place}
 use Rattle.fx_item.specs.declared.item.Item.{Item}
 use Rattle.fx_link.specs.declared.slot.Slot.{Slot}
-use Rattle.fx_machine.specs.Ballots.{voters, arrived, role_behind, repairs, ends}
-use Rattle.fx_machine.specs.Nodes.{Node, Act, Stage, Joining, Over, has_ended, writing}
+use Rattle.fx_machine.specs.Ballots.{voters, arrived, repairs, ends}
+use Rattle.fx_machine.specs.Nodes.{Node, Stage, Joining, Over, has_ended, writing}
 use Rattle.fx_machine.specs.Reading.{is_join}
 use Rattle.fx_machine.specs.Setup.{Setup}
 use Rattle.fx_fleet.specs.World.{World, up}
@@ -25,7 +24,7 @@ use Rattle.fx_losses.proofs.Actions.{member, fits_other, fits_next, acted_writes
 use Rattle.fx_losses.proofs.Turns.{after_turn, shown_turn, undecided, kept_after, shape_here, after_vote, after_other, after_phase, after_living, after_gone, ballot_move, none_to, put_own}
 use Rattle.fx_losses.proofs.Eras.{era_grows, era_before}
 use Rattle.fx_losses.proofs.Moves.{Steps, Deems, some_era}
-use Rattle.fx_losses.proofs.Shows.{phase_of, is_begin, is_later, is_placed, is_decided, Fits, At, Owes, Sane, EndedAs, role_after, Shows, up_parts}
+use Rattle.fx_losses.proofs.Shows.{is_later, is_decided, Fits, Owes, Sane, EndedAs, role_after, Shows, up_parts}
 use Rattle.fx_losses.proofs.Texts.{put_same, put_other, Acted, shown_quiet}
 use Rattle.fx_losses.proofs.Votes.{alive_voter}
 

@@ -1,5 +1,5 @@
 -- Each deed of a node, where the body asks nothing, does what it owes to the ballots and to the journal.
-use Rattle.std.proofs.Common.{◌≡◌, ◌≢◌, ◌<◌, ℕ, zero, suc, Bool, true, false, ◌&&◌, ◌||◌, ◌==◌, List, [], ◌∷◌, map, Option, Some, None, inl, inr, arith, refl, sym, ap, subst, ◌∙◌}
+use Rattle.std.proofs.Common.{◌≡◌, ◌≢◌, ◌<◌, ℕ, zero, suc, Bool, true, false, ◌&&◌, ◌||◌, ◌==◌, List, [], ◌∷◌, map, Option, Some, inl, inr, arith, refl, sym, ap, subst, ◌∙◌}
 use Rattle.std.specs.Prelude.{if◌then◌else◌, not, nat_lt, is_some}
 use Rattle.std.specs.List.{filter, list_any}
 use Rattle.std.proofs.lemmas.Bool.Decides.{nat_tests}
@@ -8,7 +8,7 @@ use Rattle.fx_ballot.specs.declared.poll.Poll.{Poll}
 use Rattle.fx_ballot.specs.declared.poll.Poll.TheVariants as poll
 use Rattle.fx_ballot.specs.Laws.{vote_of, estimate_of}
 use Rattle.fx_ballot.specs.Names.{seat_of, has}
-use Rattle.fx_ballot.specs.Turn.{Phase, Outside, Turn}
+use Rattle.fx_ballot.specs.Turn.{Phase, Outside}
 use Rattle.fx_ballot.specs.World.{put}
 use Rattle.fx_ballot.specs.World as ballot
 use Rattle.fx_check.specs.Facts.{facts_of}
@@ -34,34 +34,33 @@ use Rattle.fx_machine.specs.Setup.{Setup}
 use Rattle.fx_machine.specs.Steps.{inits, may_help_out, passes_on, prints}
 use Rattle.fx_machine.specs.Texts as text
 use Rattle.fx_machine.specs.Texts.{Text}
-use Rattle.fx_deeds.specs.Deeds.{AsksFor, IsIn, InBallot, OfEpoch, OfCall, Reason, First, HelpsOut, HasFailed, IsDone, Deed, Joins, Moves, Speaks, EndsAll, Repairs, Inits, PassesOn, PrintsOut, IsRefused, Attaches, Stores, Commits, Restores, EntersBarrier, EntersReduction, EntersShift, EntersAgreement, EntersDeletion, EntersClosing, EntersCreation, PassesBarrier, Reduces, Shifts, GathersNoMore, VotesNo, VotesYes, VotesFresh, HelpsAndGives, VotesFinding, ReturnsError, ReturnsBits, Closes, Creates, Deletes}
+use Rattle.fx_deeds.specs.Deeds.{AsksFor, IsIn, OfEpoch, OfCall, Reason, First, HelpsOut, HasFailed, IsDone, Deed, Joins, Moves, Speaks, EndsAll, Repairs, Inits, PassesOn, PrintsOut, IsRefused, Attaches, Stores, Commits, Restores, EntersBarrier, EntersReduction, EntersShift, EntersAgreement, EntersDeletion, EntersClosing, EntersCreation, PassesBarrier, Reduces, Shifts, GathersNoMore, VotesNo, VotesYes, VotesFresh, HelpsAndGives, VotesFinding, ReturnsError, ReturnsBits, Closes, Creates, Deletes}
 use Rattle.fx_fleet.specs.Runs.{AsksNothing, job_setup}
-use Rattle.fx_fleet.specs.World.{World, up, sent_to, does}
+use Rattle.fx_fleet.specs.World.{World, up, sent_to}
 use Rattle.fx_calm.proofs.Lists.{Each, chosen}
 use Rattle.fx_calm.proofs.Standing.{noted}
 use Rattle.fx_calm.proofs.Steps.{key_same, key_other}
 use Rattle.fx_legal.specs.Effects as effects
 use Rattle.fx_legal.specs.Effects.{written, state_left}
-use Rattle.fx_legal.specs.Groups.{at_key, at_pair}
-use Rattle.fx_legal.specs.Ledger.{Chapter, Ledger, comm_in, comm_of, is_in, is_present, role_in, procs_of}
+use Rattle.fx_legal.specs.Groups.{at_key}
+use Rattle.fx_legal.specs.Ledger.{Chapter, Ledger, comm_in, comm_of, is_in, role_in, procs_of}
 use Rattle.fx_legal.specs.Legal.{GoesOn, written_all}
 use Rattle.fx_legal.specs.Rules.{MayJoin, IsStirred, IsPrint}
 use Rattle.fx_legal.specs.Stands as stand
 use Rattle.fx_legal.specs.Stands.{Stand, is_killed}
-use Rattle.fx_losses.specs.Eras.{Era, first_era, era_of, era}
+use Rattle.fx_losses.specs.Eras.{first_era, era_of, era}
 use Rattle.fx_losses.proofs.Actions.{member, acted_writes, plain_steps, deems_same, behind_join, join_steps, join_deems, join_vote, join_votes}
 use Rattle.fx_losses.proofs.Turns.{after_turn, after_votes, shown_turn}
 use Rattle.fx_losses.proofs.Turning.{moved_steps, moved_deems, spoken_steps, spoken_deems, spoken_said}
 use Rattle.fx_losses.proofs.Closings.{may_repair, repair_links, may_ending, end_links}
 use Rattle.fx_losses.proofs.Decides.{next_steps, next_deems, end_steps, end_deems}
 use Rattle.fx_losses.proofs.Eras.{born}
-use Rattle.fx_losses.proofs.Linked.{Linked, Links, Stance, stance, present_in}
+use Rattle.fx_losses.proofs.Linked.{Linked, Links, Stance, stance}
 use Rattle.fx_losses.proofs.Moves.{Steps, Deems, at_one, one_here}
 use Rattle.fx_losses.proofs.Openings.{Wrote, standing, wrote_none, wrote_one, inits_wrote, in_body}
 use Rattle.fx_losses.proofs.Readings.{turn_shown, left_joined}
 use Rattle.fx_losses.proofs.Shows.{phase_of, is_begin, is_later, is_placed, role_after, Sane, Shows, IsTrue, Truthful, up_parts}
-use Rattle.fx_losses.proofs.Standing.{Like, liked, like_on, HasBegun, Waits, Settled, InBody, OfStage, AtStage, lives}
-use Rattle.fx_losses.proofs.Texts.{Acted}
+use Rattle.fx_losses.proofs.Standing.{Like, liked, like_on, HasBegun, Waits, Settled, InBody, OfStage, AtStage}
 
 -- ---- what a deed owes
 

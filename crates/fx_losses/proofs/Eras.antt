@@ -4,7 +4,7 @@ use Rattle.std.specs.Prelude.{slice_get}
 use Rattle.std.proofs.lemmas.Bool.Decides.{nat_tests}
 use Rattle.std.proofs.lemmas.Bool.{cond_both, cases_eq}
 use Rattle.fx_base.specs.Sets.{those_below}
-use Rattle.fx_ballot.specs.Names.{seat_at, seat_of, has, Distinct}
+use Rattle.fx_ballot.specs.Names.{seat_of, has, Distinct}
 use Rattle.fx_ballot.specs.World.{put}
 use Rattle.fx_comm.proofs.Lists.{is_in, IsApart, those_apart}
 use Rattle.fx_link.specs.declared.slot.Slot.{Slot}

@@ -1,27 +1,25 @@
 -- Deliveries keep what the world shows.
-use Rattle.std.proofs.Common.{◌≡◌, ℕ, ◌<◌, ◌≢◌, ◌==◌, zero, suc, Bool, true, false, cond, ◌&&◌, List, [], ◌∷◌, ◌++◌, length, Option, Some, None, ◌⊎◌, inl, inr, arith, refl, subst, sym, ◌∙◌, ap}
+use Rattle.std.proofs.Common.{◌≡◌, ℕ, ◌<◌, ◌≢◌, ◌==◌, suc, Bool, true, false, ◌&&◌, List, [], ◌∷◌, ◌++◌, length, Option, Some, None, ◌⊎◌, inl, inr, arith, refl, subst, sym, ◌∙◌, ap}
 use Rattle.std.specs.Prelude.{if◌then◌else◌, not, nat_lt}
 use Rattle.std.proofs.lemmas.Bool.Decides.{nat_tests}
 use Rattle.std.proofs.lemmas.Bool.{cases_eq}
 use Rattle.fx_ballot.specs.declared.heard.Heard.{Heard}
-use Rattle.fx_ballot.specs.Laws.{vote_of, estimate_of}
+use Rattle.fx_ballot.specs.Laws.{vote_of}
 use Rattle.fx_ballot.specs.Names.{seat_at, has}
-use Rattle.fx_ballot.specs.Turn.{Phase, Outside, Decided, Message, hear, learn_loss}
+use Rattle.fx_ballot.specs.Turn.{Phase, Decided, Message}
 use Rattle.fx_ballot.specs.World.{Member, put, put_link, among, start, hears, tells, kills}
 use Rattle.fx_ballot.specs.World as ballot
-use Rattle.fx_ballot.proofs.Face.{Blank, blank_start, blank_kill, blank_tell, sound_kill, sound_tell, sound_hear, caught_kill, caught_tell, caught_hear}
+use Rattle.fx_ballot.proofs.Face.{Blank, sound_hear, caught_hear}
 use Rattle.fx_ballot.proofs.Runs.{Kept}
 use Rattle.fx_comm.specs.Seats.{has_place}
 use Rattle.fx_link.specs.declared.slot.Slot.{Slot}
-use Rattle.fx_machine.specs.Nodes.{Node, Stage, Joining, has_ended, first_node, receives, is_told}
+use Rattle.fx_machine.specs.Nodes.{Node, Stage, has_ended, receives}
 use Rattle.fx_machine.specs.Setup.{Setup}
 use Rattle.fx_machine.specs.Texts.{Text}
-use Rattle.fx_fleet.specs.World.{World, first_world, up, with_link, receives_front, learns, loses}
-use Rattle.fx_calm.proofs.Seats.{has_all}
+use Rattle.fx_fleet.specs.World.{World, up, receives_front}
 use Rattle.fx_losses.specs.Eras.{Era, first_era, era_of, is_last, era}
-use Rattle.fx_losses.proofs.Actions.{kept_blank}
 use Rattle.fx_losses.proofs.Shows.{phase_of, is_begin, is_later, is_placed, Fits, At, Owes, Sane, EndedAs, role_after, Shows, up_parts}
-use Rattle.fx_losses.proofs.Texts.{put_same, put_other, text_in, with_front, of_epoch, heard_of, knowing, shown, of_append, heard_append, lost_later}
+use Rattle.fx_losses.proofs.Texts.{put_same, put_other, text_in, with_front, of_epoch, heard_of, knowing, shown, of_append, heard_append}
 
 -- ---- a node that hears or is told stands where it stood
 

@@ -1,56 +1,29 @@
 -- The journal of a run with any events is legal, and shows all ends.
 use Rattle.std.proofs.lemmas.Bool.Decides.{nat_tests}
-use Rattle.std.proofs.lemmas.List.Elements.{filter-append}
-use Rattle.std.proofs.lemmas.Bool.{cases_eq}
-use Rattle.std.proofs.Common.{arith, ◌≡◌, ◌≢◌, ◌<◌, ℕ, zero, suc, Bool, true, false, ◌&&◌, ◌==◌, List, [], ◌∷◌, ◌++◌, map, Option, Some, None, inl, inr, refl, sym, ap, subst, ◌∙◌}
+use Rattle.std.proofs.Common.{arith, ◌≡◌, ◌<◌, ℕ, zero, suc, Bool, true, false, ◌==◌, List, [], ◌∷◌, Option, Some, None, refl, sym, ap, subst, ◌∙◌}
 use Rattle.std.specs.Prelude.{nat_lt, not, if◌then◌else◌}
-use Rattle.fx_ballot.specs.declared.heard.Heard.{Heard}
-use Rattle.fx_ballot.specs.Laws.{vote_of}
-use Rattle.fx_ballot.specs.World.{start, tells, kills, put}
-use Rattle.fx_ballot.specs.World as ballot
-use Rattle.fx_base.specs.Sets.{those_below}
-use Rattle.fx_ballot.specs.Names.{has}
+use Rattle.fx_ballot.specs.World.{start}
 use Rattle.fx_check.specs.Work.{bound_of}
-use Rattle.fx_item.specs.declared.item.Item.{Item}
-use Rattle.fx_item.specs.declared.item.Item.TheVariants as item
 use Rattle.fx_link.specs.declared.slot.Slot.{Slot}
 use Rattle.fx_script.specs.declared.job.Job.{Job}
 use Rattle.fx_store.proofs.Mirrors.{each_at, each_from}
-use Rattle.fx_machine.specs.Messages.{message_of}
-use Rattle.fx_machine.specs.Nodes.{Node, Act, Stage, Begins, Joining, Arrived, Walking, Calling, Failed, Over, has_ended, first_node, receives, is_told}
-use Rattle.fx_machine.specs.Numbers.{proc}
-use Rattle.fx_machine.specs.Setup.{Setup}
-use Rattle.fx_machine.specs.Steps.{next}
-use Rattle.fx_machine.specs.Texts.{Text}
-use Rattle.fx_deeds.proofs.Every.{is_deed}
-use Rattle.fx_fleet.specs.Rounds.{all_over, whole, is_of_journal}
+use Rattle.fx_fleet.specs.Rounds.{all_over, whole}
 use Rattle.fx_fleet.specs.Runs.{AsksNothing, job_setup, moments_of, rest_bound_of, journal_of}
-use Rattle.fx_fleet.specs.World.{World, first_world, up, send_item, does, receives_front, learns, loses}
-use Rattle.fx_calm.proofs.Lists.{Each, written_more, goes_on_more}
+use Rattle.fx_fleet.specs.World.{World, first_world, up}
+use Rattle.fx_calm.proofs.Lists.{Each}
 use Rattle.fx_calm.proofs.Seats.{has_all}
 use Rattle.fx_calm.proofs.Standing.{noted}
-use Rattle.fx_calm.proofs.Steps.{key_same, key_other}
-use Rattle.fx_legal.specs.Effects.{due_kills, behind_first, written}
-use Rattle.fx_legal.specs.Groups.{at_key}
-use Rattle.fx_legal.specs.Ledger.{Chapter, Ledger, first_ledger, first_chapter, procs_of, kills_in}
-use Rattle.fx_legal.specs.Legal.{GoesOn, written_all, ledger_of, IsLegalWhole, AllHaveEnded}
-use Rattle.fx_legal.specs.Stands as stand
-use Rattle.fx_legal.specs.Stands.{Stand, is_killed, is_gone}
-use Rattle.fx_losses.specs.Eras.{Era, first_era, next_era, era}
-use Rattle.fx_losses.proofs.Deeds.{Does, deed_does}
-use Rattle.fx_losses.proofs.Eras.{era_grows, next_none}
-use Rattle.fx_losses.proofs.Events.{behind_delivery, deliver_shows, self_shows, got_own}
-use Rattle.fx_losses.proofs.Notices.{notice_shows, tells_vote, tells_estimate}
-use Rattle.fx_losses.proofs.Losses.{loses_others, loss_shows, kills_heard, slain_not, start_shows}
-use Rattle.fx_losses.proofs.Linked.{Linked, linked_step, linked_same}
+use Rattle.fx_legal.specs.Effects.{due_kills}
+use Rattle.fx_legal.specs.Ledger.{Chapter, first_ledger, first_chapter, procs_of}
+use Rattle.fx_legal.specs.Legal.{ledger_of, IsLegalWhole, AllHaveEnded}
+use Rattle.fx_losses.specs.Eras.{Era, first_era, era}
+use Rattle.fx_losses.proofs.Eras.{next_none}
+use Rattle.fx_losses.proofs.Losses.{start_shows}
 use Rattle.fx_losses.proofs.Moments.{IsKeptAlong, always_along}
-use Rattle.fx_losses.proofs.Moves.{shows_step}
-use Rattle.fx_losses.proofs.Schedule.{kills_of, kills_are, due_kept, due_first, first_due, due_past}
-use Rattle.fx_losses.proofs.Shows.{Shows, Truthful, up_parts}
-use Rattle.fx_losses.proofs.Standing.{Like, like_on, OfStage, AtStage, lives, gone_where_over, killed_is}
-use Rattle.fx_losses.proofs.Texts.{append_none, put_same, put_other, text_in, of_epoch}
-use Rattle.fx_losses.proofs.Truths.{truthful_grows, truthful_step, truthful_same, truthful_receives, truthful_learns, truthful_loses, truthful_first}
-use Rattle.fx_losses.proofs.Legally.{Legally, noted_more, gone_where_not_up}
+use Rattle.fx_losses.proofs.Schedule.{kills_of, kills_are, due_past}
+use Rattle.fx_losses.proofs.Standing.{Like}
+use Rattle.fx_losses.proofs.Truths.{truthful_first}
+use Rattle.fx_losses.proofs.Legally.{Legally, gone_where_not_up}
 use Rattle.fx_losses.proofs.Legally.{acts_legally}
 use Rattle.fx_losses.proofs.Hearing.{hears_legally, tells_legally}
 use Rattle.fx_losses.proofs.Losing.{loses_legally}

@@ -25,6 +25,7 @@ pub mod Legally
 pub mod Hearing
 pub mod Losing
 pub mod Legality
+pub mod Accepted
 pub mod Gone
 pub mod Sparing
 pub mod Asides

@@ -1,10 +1,10 @@
 -- The ledger tells what the world shows.
-use Rattle.std.proofs.Common.{◌≡◌, ℕ, ◌<◌, ◌≢◌, ◌==◌, zero, suc, Bool, true, false, List, [], length, Option, Some, None, inl, inr, arith, refl, subst, sym, ◌∙◌, ap}
-use Rattle.std.specs.Prelude.{not, is_some}
+use Rattle.std.proofs.Common.{◌≡◌, ℕ, ◌<◌, ◌≢◌, suc, Bool, true, false, List, length, Option, Some, None, inl, inr, refl, subst, sym, ◌∙◌, ap}
+use Rattle.std.specs.Prelude.{not}
 use Rattle.std.proofs.lemmas.Bool.{cases_eq}
 use Rattle.fx_ballot.specs.Laws.{vote_of, held, TrueSlots}
 use Rattle.fx_ballot.specs.Names.{seat_at, has}
-use Rattle.fx_ballot.specs.Turn.{Phase, Outside, Decided}
+use Rattle.fx_ballot.specs.Turn.{Outside, Decided}
 use Rattle.fx_ballot.specs.World.{Member}
 use Rattle.fx_ballot.specs.World as ballot
 use Rattle.fx_ballot.proofs.Runs.{Kept}
@@ -18,8 +18,8 @@ use Rattle.fx_legal.specs.Ledger.{Chapter, Ledger}
 use Rattle.fx_legal.specs.Stands.{Stand, is_killed}
 use Rattle.fx_losses.specs.Eras.{Era, first_era, era_of, next_era, era}
 use Rattle.fx_losses.proofs.Eras.{next_none}
-use Rattle.fx_losses.proofs.Moves.{at_one, one_here, one_far, node_same, node_other, each_node}
-use Rattle.fx_losses.proofs.Shows.{phase_of, Fits, At, Owes, Sane, Shows, up_parts, now_at}
+use Rattle.fx_losses.proofs.Moves.{at_one, one_here, one_far, each_node}
+use Rattle.fx_losses.proofs.Shows.{phase_of, Shows, up_parts, now_at}
 use Rattle.fx_losses.proofs.Standing.{LikeEra, Like, Liked, liked, unliked, AtStage, lives}
 use Rattle.fx_losses.proofs.Votes.{Slotted, alive_slot}
 

@@ -1,28 +1,25 @@
 -- Losses keep what the world shows; and what the first world shows.
-use Rattle.std.proofs.Common.{◌≡◌, ℕ, ◌<◌, ◌≢◌, ◌==◌, zero, suc, Bool, true, false, cond, ◌&&◌, List, [], ◌∷◌, ◌++◌, length, Option, Some, None, ◌⊎◌, inl, inr, arith, refl, subst, sym, ◌∙◌, ap}
-use Rattle.std.specs.Prelude.{if◌then◌else◌, not, nat_lt}
+use Rattle.std.proofs.Common.{◌≡◌, ℕ, ◌<◌, ◌≢◌, suc, Bool, true, false, ◌&&◌, List, length, Option, Some, None, inl, inr, arith, refl, subst, sym, ◌∙◌, ap}
+use Rattle.std.specs.Prelude.{not, nat_lt}
 use Rattle.std.proofs.lemmas.Bool.Decides.{nat_tests}
 use Rattle.std.proofs.lemmas.Bool.{cases_eq}
 use Rattle.fx_ballot.specs.declared.heard.Heard.{Heard}
-use Rattle.fx_ballot.specs.Laws.{vote_of, estimate_of}
-use Rattle.fx_ballot.specs.Names.{seat_at, has}
-use Rattle.fx_ballot.specs.Turn.{Phase, Outside, Decided, Message, hear, learn_loss}
+use Rattle.fx_ballot.specs.Names.{seat_at}
+use Rattle.fx_ballot.specs.Turn.{Outside, Decided}
 use Rattle.fx_ballot.specs.World.{Member, put, put_link, among, start, hears, tells, kills}
 use Rattle.fx_ballot.specs.World as ballot
-use Rattle.fx_ballot.proofs.Face.{Blank, blank_start, blank_kill, blank_tell, sound_kill, sound_tell, sound_hear, caught_kill, caught_tell, caught_hear}
-use Rattle.fx_ballot.proofs.Runs.{Kept}
+use Rattle.fx_ballot.proofs.Face.{blank_start, blank_kill, sound_kill, caught_kill}
 use Rattle.fx_comm.specs.Seats.{has_place}
 use Rattle.fx_link.specs.declared.slot.Slot.{Slot}
-use Rattle.fx_machine.specs.Nodes.{Node, Stage, Joining, has_ended, first_node, receives, is_told}
+use Rattle.fx_machine.specs.Nodes.{Node, has_ended, first_node}
 use Rattle.fx_machine.specs.Setup.{Setup}
-use Rattle.fx_machine.specs.Texts.{Text}
-use Rattle.fx_fleet.specs.World.{World, first_world, up, with_link, receives_front, learns, loses}
+use Rattle.fx_fleet.specs.World.{World, first_world, up, loses}
 use Rattle.fx_calm.proofs.Seats.{has_all}
-use Rattle.fx_losses.specs.Eras.{Era, first_era, era_of, is_last, era}
+use Rattle.fx_losses.specs.Eras.{first_era, era_of, era}
 use Rattle.fx_losses.proofs.Actions.{kept_blank}
-use Rattle.fx_losses.proofs.Shows.{phase_of, is_begin, is_later, is_placed, Fits, At, Owes, Sane, EndedAs, role_after, Shows, up_parts}
-use Rattle.fx_losses.proofs.Texts.{put_same, put_other, text_in, with_front, of_epoch, heard_of, knowing, shown, of_append, heard_append, lost_later}
-use Rattle.fx_losses.proofs.Events.{Stands, Alike, not_pair, is_pair, Changed, at_changed, owes_same, alike_shows}
+use Rattle.fx_losses.proofs.Shows.{is_begin, Fits, Sane, EndedAs, role_after, Shows, up_parts}
+use Rattle.fx_losses.proofs.Texts.{put_same, put_other, of_epoch, shown}
+use Rattle.fx_losses.proofs.Events.{owes_same}
 
 -- ---- a loss
 
@@ -55,9 +52,11 @@ module _ (s : Setup) (p : ℕ) (w : World) (z : ℕ → ballot.World) (fate : �
   pub up_survivor : (q : ℕ) → up s (loses s p w) q ≡ true → (q ≢ p) × (up s w q ≡ true)
   up_survivor q u =
       let parts = up_parts s v q u in
-      let n = slain_not p q w.killed parts.1 in
-      (n.0, sym (ap (λ (k : Bool). nat_lt q s.procs && (not k && not (has_ended (v.node q)))) (put_other w.killed p q true n.0)
-      ∙ ap (λ (x : Node). nat_lt q s.procs && (not (w.killed q) && not (has_ended x))) (loses_others q n.0)) ∙ u)
+      let n = slain_not p q w.killed parts.1 in (
+        n.0,
+        sym (ap (λ (k : Bool). nat_lt q s.procs && (not k && not (has_ended (v.node q)))) (put_other w.killed p q true n.0)
+            ∙ ap (λ (x : Node). nat_lt q s.procs && (not (w.killed q) && not (has_ended x))) (loses_others q n.0)) ∙ u,
+      )
 
   far : (a b : ℕ) → b ≢ p → v.link a b ≡ w.link a b
   far a b ne = grind (arith, nat_tests)

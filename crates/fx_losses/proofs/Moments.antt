@@ -1,6 +1,5 @@
 -- What steps, deliveries and notices keep, and a kill of the schedule too, holds behind the whole schedule and its tail.
-use Rattle.std.proofs.Common.{◌≡◌, ◌<◌, ℕ, Bool, true, false, ◌&&◌, ◌==◌, List, [], ◌∷◌, Option, Some, None, refl, sym, subst, ◌∙◌, arith}
-use Rattle.std.specs.Prelude.{if◌then◌else◌}
+use Rattle.std.proofs.Common.{◌≡◌, ◌<◌, ℕ, true, false, ◌==◌, List, [], ◌∷◌, Option, Some, None, refl, arith}
 use Rattle.fx_machine.specs.Nodes.{Act}
 use Rattle.fx_machine.specs.Setup.{Setup}
 use Rattle.fx_machine.specs.Steps.{next}
@@ -11,7 +10,7 @@ use Rattle.fx_fleet.specs.Rounds.{Moment, Step, Rest, Deliver, Kill, Notice, Run
 use Rattle.fx_deeds.proofs.Whole.{until_keeps, rising_keep, rest_left, still_up}
 use Rattle.fx_calm.proofs.Lists.{Each, chosen}
 use Rattle.std.proofs.lemmas.Bool.Decides.{nat_tests}
-use Rattle.fx_losses.proofs.Schedule.{killed_by, kills_of}
+use Rattle.fx_losses.proofs.Schedule.{kills_of}
 
 -- It speaks of the kills that are still to come. A step, a delivery and a notice keep it; a kill takes the first of them away.
 pub record IsKeptAlong (s : Setup) (Is : List ℕ → World → Type 0) : Type 0 where

@@ -1,5 +1,5 @@
 -- A step of one node keeps what the world shows.
-use Rattle.std.proofs.Common.{◌≡◌, ℕ, ◌<◌, ◌≢◌, ◌==◌, suc, Bool, true, false, cond, ◌&&◌, List, [], Option, Some, None, inl, inr, arith, refl, subst, sym, ◌∙◌, ap}
+use Rattle.std.proofs.Common.{◌≡◌, ℕ, ◌≢◌, ◌==◌, suc, Bool, true, false, ◌&&◌, List, [], Option, Some, inl, inr, arith, refl, subst, sym, ◌∙◌, ap}
 use Rattle.std.specs.Prelude.{if◌then◌else◌, not, nat_lt}
 use Rattle.std.proofs.lemmas.Bool.Decides.{nat_tests}
 use Rattle.std.proofs.lemmas.Bool.{cond_both, cases_eq}
@@ -12,7 +12,7 @@ use Rattle.fx_machine.specs.Nodes.{Node, Act, has_ended}
 use Rattle.fx_machine.specs.Setup.{Setup}
 use Rattle.fx_machine.specs.Texts.{Text}
 use Rattle.fx_fleet.specs.World.{World, up, does}
-use Rattle.fx_losses.specs.Eras.{Era, first_era, era_of, is_last, era}
+use Rattle.fx_losses.specs.Eras.{Era, first_era, era_of, era}
 use Rattle.fx_losses.proofs.Eras.{Born, born, era_grows}
 use Rattle.fx_losses.proofs.Shows.{Fits, At, Owes, Sane, EndedAs, role_after, Shows}
 use Rattle.fx_losses.proofs.Texts.{put_same, put_other, of_epoch, shown, Acted, shown_quiet, told_none, link_shows}

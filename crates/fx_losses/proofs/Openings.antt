@@ -1,24 +1,21 @@
 -- What a process writes as it returns from `Init`: all that its callbacks are to write, and then the return.
-use Rattle.std.proofs.Common.{◌≡◌, ◌≢◌, ◌<◌, ℕ, zero, suc, Bool, true, false, ◌==◌, List, [], ◌∷◌, ◌++◌, map, length, Option, Some, None, refl, sym, ap, subst, ◌∙◌}
+use Rattle.std.proofs.Common.{◌≡◌, ◌≢◌, ◌<◌, ℕ, zero, suc, true, List, [], ◌∷◌, ◌++◌, map, Option, None, refl, sym, ap, subst, ◌∙◌}
 use Rattle.std.specs.Prelude.{if◌then◌else◌, nat_lt}
-use Rattle.std.specs.List.{filter, flat_map}
-use Rattle.fx_base.specs.declared.names.Role.{Role}
+use Rattle.std.specs.List.{flat_map}
 use Rattle.fx_base.specs.declared.names.Role.TheVariants as role
 use Rattle.fx_check.specs.Facts.{facts_of}
 use Rattle.fx_comm.specs.Seats.{Seat, has_place}
 use Rattle.fx_item.specs.declared.item.Item.{Item}
 use Rattle.fx_item.specs.declared.item.Item.TheVariants as item
-use Rattle.fx_link.specs.declared.slot.Slot.{Slot}
 use Rattle.fx_script.specs.declared.job.Job.{Job}
 use Rattle.fx_walk.specs.declared.printed.Called.{Called}
 use Rattle.fx_walk.specs.declared.printed.Printed.{Printed}
-use Rattle.fx_walk.specs.Callbacks.{view_at_init, callbacks_at_init, body_start}
+use Rattle.fx_walk.specs.Callbacks.{callbacks_at_init, body_start}
 use Rattle.fx_walk.specs.State.{State}
-use Rattle.fx_machine.specs.Nodes.{Node, Act, ident_at, my_place, size, state_of}
+use Rattle.fx_machine.specs.Nodes.{Node, ident_at, my_place, size, state_of}
 use Rattle.fx_machine.specs.Numbers.{proc, epoch_no}
 use Rattle.fx_machine.specs.Steps.{print_item, callback_items, init_item, begun, inits}
-use Rattle.fx_fleet.specs.Rounds.{is_of_journal}
-use Rattle.fx_fleet.specs.Runs.{AsksNothing, job_setup}
+use Rattle.fx_fleet.specs.Runs.{job_setup}
 use Rattle.fx_calm.proofs.Seats.{seat_is}
 use Rattle.fx_calm.proofs.Standing.{noted}
 use Rattle.fx_calm.proofs.Steps.{key_same, key_other}
@@ -30,7 +27,7 @@ use Rattle.fx_legal.specs.Legal.{GoesOn, written_all}
 use Rattle.fx_legal.specs.Rules.{HasOpened, HasSeat, IsSize, IsNote, IsPrint}
 use Rattle.fx_legal.specs.Stands as stand
 use Rattle.fx_legal.specs.Stands.{Note, Stand, notes_of}
-use Rattle.fx_losses.proofs.Standing.{opening, InBody}
+use Rattle.fx_losses.proofs.Standing.{opening}
 
 -- items of one process that change nothing but where it stands
 pub record Wrote (job : Job) (l : Ledger) (p : ℕ) (items : List Item) (x : Stand) : Type 0 where
@@ -106,8 +103,7 @@ module _ (job : Job) (n : Node) (l : Ledger) (few : n.me < procs_of job) (comm :
   returns : (m : Ledger) → m.stands n.me ≡ stand.Opening n.epoch [] state → m.chapters ≡ l.chapters → Wrote job m n.me (noted (init_item (job_setup job) n ∷ [])) in_body
   returns m at_m same =
       wrote_one job n few state m (init_item (job_setup job) n) in_body in_body []
-      (ap (λ (o : Stand). standing n.me o m) (ap (returned_from_init job n.role (record { 0 = ident_at n (my_place n) }) (my_place n) (size n)) at_m))
-      (
+      (ap (λ (o : Stand). standing n.me o m) (ap (returned_from_init job n.role (record { 0 = ident_at n (my_place n) }) (my_place n) (size n)) at_m)) (
         (
           few,
           record {

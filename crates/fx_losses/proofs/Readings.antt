@@ -1,13 +1,13 @@
 -- What a node reads of its ballot is all that it was sent: nothing that was said fails a test of its reading.
 use Rattle.std.proofs.Common.{◌≡◌, ℕ, ◌<◌, ◌==◌, suc, zero, Bool, true, false, ◌||◌, ◌&&◌, List, [], ◌∷◌, length, Option, Some, None, inl, inr, arith, refl, subst, sym, ◌∙◌, ap}
-use Rattle.std.specs.Prelude.{if◌then◌else◌, not, slice_get, is_some}
+use Rattle.std.specs.Prelude.{not, slice_get, is_some}
 use Rattle.std.specs.List.{list_all}
 use Rattle.std.specs.Option.{option_or}
 use Rattle.std.proofs.lemmas.Bool.Decides.{nat_tests}
 use Rattle.fx_ballot.specs.declared.heard.Heard.{Heard}
 use Rattle.fx_ballot.specs.Laws.{vote_of, estimate_of, IsTrueSlot, TrueSlots}
 use Rattle.fx_ballot.specs.Names.{seat_at, seat_of, has}
-use Rattle.fx_ballot.specs.Turn.{Phase, Message, Vote, Estimate, earliest, hear, Turn, turn}
+use Rattle.fx_ballot.specs.Turn.{Phase, Vote, Estimate, earliest, hear, turn}
 use Rattle.fx_ballot.specs.World as ballot
 use Rattle.fx_ballot.proofs.Face.{sound_reaches}
 use Rattle.fx_ballot.proofs.Names.{seat_found}
@@ -21,11 +21,11 @@ use Rattle.fx_machine.specs.Texts as text
 use Rattle.fx_machine.specs.Texts.{Text}
 use Rattle.fx_fleet.specs.World.{World, up}
 use Rattle.fx_calm.proofs.Lists.{Each}
-use Rattle.fx_losses.specs.Eras.{Era, first_era, era_of, era}
+use Rattle.fx_losses.specs.Eras.{Era, era_of}
 use Rattle.fx_losses.proofs.Actions.{kept_here}
 use Rattle.fx_losses.proofs.Moves.{some_era}
-use Rattle.fx_losses.proofs.Shows.{At, Owes, Sane, Shows, IsVote, Spoke, IsEstimate, IsTrue, Truthful, up_parts}
-use Rattle.fx_losses.proofs.Texts.{text_in, with_front, of_epoch, heard_of, knowing, shown}
+use Rattle.fx_losses.proofs.Shows.{Shows, Spoke, IsTrue, Truthful, up_parts}
+use Rattle.fx_losses.proofs.Texts.{with_front, of_epoch, heard_of, knowing, shown}
 use Rattle.fx_losses.proofs.Turns.{shown_turn}
 use Rattle.fx_losses.proofs.Votes.{Slotted, alive_slot}
 

@@ -1,11 +1,10 @@
 -- The kills of the schedule, in their order.
-use Rattle.std.proofs.Common.{◌≡◌, ◌<◌, ℕ, Bool, true, false, List, [], ◌∷◌, ◌++◌, map, refl, sym, ap, subst, ◌∙◌}
+use Rattle.std.proofs.Common.{◌≡◌, ℕ, Bool, true, false, List, [], ◌∷◌, ◌++◌, map, refl, sym, ap, subst, ◌∙◌}
 use Rattle.std.specs.Prelude.{if◌then◌else◌}
 use Rattle.fx_check.specs.Rules.{count_of}
 use Rattle.fx_script.specs.declared.job.Event.{Event}
 use Rattle.fx_script.specs.declared.job.EventKind.{EventKind}
 use Rattle.fx_script.specs.declared.job.EventKind.TheVariants as event
-use Rattle.fx_script.specs.declared.job.Job.{Job}
 use Rattle.fx_fleet.specs.Rounds.{Moment, Step, Rest, Deliver, Kill, Notice, Run}
 use Rattle.fx_fleet.specs.Runs.{moment_of}
 use Rattle.fx_legal.specs.Effects.{due_kills}

@@ -1,11 +1,11 @@
 -- How the world shows the ballot at the begin of each epoch, also of those that haven't begun.
-use Rattle.std.proofs.Common.{◌≡◌, ℕ, ◌<◌, ◌≢◌, zero, suc, Bool, true, false, ◌&&◌, List, length, Option, Some, None, arith, refl, sym, ◌∙◌, ap}
+use Rattle.std.proofs.Common.{◌≡◌, ℕ, ◌<◌, ◌≢◌, zero, suc, Bool, true, false, ◌&&◌, List, length, Option, Some, None, arith, refl}
 use Rattle.std.specs.Prelude.{not, nat_lt, if◌then◌else◌}
 use Rattle.std.proofs.lemmas.Bool.Decides.{nat_tests}
 use Rattle.fx_base.specs.declared.names.Role.{Role}
 use Rattle.fx_base.specs.declared.names.Role.TheVariants as role
 use Rattle.fx_ballot.specs.Names.{seat_at, seat_of, has}
-use Rattle.fx_ballot.specs.Turn.{Phase, Outside, Voting, Round, Decided}
+use Rattle.fx_ballot.specs.Turn.{Phase, Outside, Decided}
 use Rattle.fx_ballot.specs.World.{is_outside}
 use Rattle.fx_ballot.specs.World as ballot
 use Rattle.fx_ballot.specs.Laws.{vote_of, estimate_of}
@@ -13,7 +13,7 @@ use Rattle.fx_ballot.proofs.Face.{Blank}
 use Rattle.fx_ballot.proofs.Runs.{Kept}
 use Rattle.fx_comm.specs.Seats.{has_place}
 use Rattle.fx_link.specs.declared.slot.Slot.{Slot}
-use Rattle.fx_machine.specs.Nodes.{Node, Stage, Begins, Joining, Arrived, Walking, Calling, Failed, Over, has_ended}
+use Rattle.fx_machine.specs.Nodes.{Node, Stage, Begins, Joining, Arrived, Walking, Calling, Failed, has_ended}
 use Rattle.fx_machine.specs.Reading.{is_join}
 use Rattle.fx_machine.specs.Setup.{Setup}
 use Rattle.fx_machine.specs.Texts as text

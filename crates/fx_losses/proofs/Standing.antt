@@ -1,14 +1,13 @@
 -- Where a process stands in the ledger, from where its node stands; and the epochs of the ledger.
-use Rattle.std.proofs.Common.{◌≡◌, ℕ, suc, Bool, true, false, ◌&&◌, List, [], Option, Some, None, refl, subst, sym, ◌∙◌, ap}
+use Rattle.std.proofs.Common.{◌≡◌, ℕ, suc, Bool, true, false, ◌&&◌, Option, Some, None, refl, subst, ap}
 use Rattle.std.specs.Prelude.{nat_lt}
 use Rattle.fx_ballot.specs.Names.{has}
 use Rattle.fx_check.specs.Facts.{facts_of}
 use Rattle.fx_comm.specs.Seats.{has_place}
-use Rattle.fx_link.specs.declared.slot.Slot.{Slot}
 use Rattle.fx_script.specs.declared.job.Job.{Job}
 use Rattle.fx_walk.specs.Callbacks.{callbacks_at_init, body_start}
 use Rattle.fx_walk.specs.Lengths.{OnlyPrints}
-use Rattle.fx_walk.specs.State.{State, blank}
+use Rattle.fx_walk.specs.State.{blank}
 use Rattle.fx_machine.specs.Nodes.{Node, Stage, Begins, Joining, Arrived, Walking, Calling, Failed, Over, is_over, has_ended, size, my_place, state_of}
 use Rattle.fx_legal.specs.Ledger.{Chapter, Ledger}
 use Rattle.fx_legal.specs.Stands as stand

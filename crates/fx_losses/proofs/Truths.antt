@@ -1,6 +1,5 @@
 -- All that is kept and all that is under way was said, whatever happens.
-use Rattle.std.proofs.Common.{◌≡◌, ℕ, ◌≢◌, ◌==◌, suc, zero, Bool, true, false, ◌&&◌, List, [], ◌∷◌, ◌++◌, Option, Some, None, inl, inr, arith, refl, subst, sym, ◌∙◌, ap}
-use Rattle.std.specs.Prelude.{if◌then◌else◌}
+use Rattle.std.proofs.Common.{◌≡◌, ℕ, ◌==◌, suc, zero, Bool, true, ◌&&◌, List, [], ◌∷◌, ◌++◌, Option, Some, inl, inr, arith, subst, sym, ◌∙◌, ap}
 use Rattle.std.proofs.lemmas.Bool.Decides.{nat_tests}
 use Rattle.std.proofs.lemmas.Bool.{cases_eq}
 use Rattle.fx_ballot.specs.declared.heard.Heard.{Heard}
@@ -12,12 +11,12 @@ use Rattle.fx_machine.specs.Nodes.{Node, Act, first_node, receives, is_told}
 use Rattle.fx_machine.specs.Setup.{Setup}
 use Rattle.fx_machine.specs.Texts as text
 use Rattle.fx_machine.specs.Texts.{Text}
-use Rattle.fx_fleet.specs.World.{World, first_world, up, sent_to, with_link, does, receives_front, learns, loses}
+use Rattle.fx_fleet.specs.World.{World, first_world, up, sent_to, does, receives_front, learns, loses}
 use Rattle.fx_calm.proofs.Lists.{Each, each_append, each_weaker, chosen, equal}
 use Rattle.fx_losses.specs.Eras.{Era, first_era, era}
-use Rattle.fx_losses.proofs.Moves.{Move, Steps, at_one, one_here, one_far, each_node}
-use Rattle.fx_losses.proofs.Shows.{At, Shows, IsVote, Spoke, IsEstimate, IsTrue, Truthful}
-use Rattle.fx_losses.proofs.Texts.{shown, Acted, own_vote_stays, own_estimate_stays}
+use Rattle.fx_losses.proofs.Moves.{Steps, at_one, one_here, one_far, each_node}
+use Rattle.fx_losses.proofs.Shows.{Shows, IsVote, IsEstimate, IsTrue, Truthful}
+use Rattle.fx_losses.proofs.Texts.{own_vote_stays, own_estimate_stays}
 
 first_of : (a b : Bool) → (a && b) ≡ true → a ≡ true
 first_of a b e = grind (arith, nat_tests)

@@ -1,5 +1,5 @@
 -- What decided slots tell of votes.
-use Rattle.std.proofs.Common.{◌≡◌, ℕ, Bool, true, false, List, length, Option, Some, None, inl, inr, refl, subst, sym, ◌∙◌, ap}
+use Rattle.std.proofs.Common.{◌≡◌, ℕ, true, false, List, length, Some, inl, inr, subst, sym, ◌∙◌, ap}
 use Rattle.std.specs.Prelude.{slice_get}
 use Rattle.fx_ballot.specs.Laws.{vote_of, IsTrueSlot, TrueSlots}
 use Rattle.fx_ballot.specs.Names.{seat_at, seat_of, has, Distinct}

@@ -1,6 +1,5 @@
 -- What a journal tells of losses.
-use Rattle.std.specs.Prelude.{◌≡◌, ℕ, zero, suc, ◌<◌, true, List, [], ◌∷◌}
-use Rattle.fx_base.specs.declared.names.Epoch.{Epoch}
+use Rattle.std.specs.Prelude.{◌≡◌, ℕ, zero, suc, true, List, [], ◌∷◌}
 use Rattle.fx_comm.specs.Seats.{has_place}
 use Rattle.fx_item.specs.declared.item.Item.{Item}
 use Rattle.fx_item.specs.declared.item.Item.TheVariants as item

@@ -1,1 +1,23 @@
 //! Laws of runs with any events, kills and notices among them.
+
+ghost use Rattle.std.specs.Prelude.{◌≡◌, ℕ, true};
+ghost use Rattle.fx_script.specs.declared.job.Job.{Job};
+ghost use Rattle.fx_check.specs.Acceptance.{IsAccepted};
+ghost use Rattle.fx_check.specs.Work.{bound_of};
+ghost use Rattle.fx_fleet.specs.Rounds.{all_over, whole};
+ghost use Rattle.fx_fleet.specs.Runs.{AsksNothing, job_setup, moments_of, rest_bound_of, journal_of};
+ghost use Rattle.fx_legal.specs.Legal.{IsLegalWhole, AllHaveEnded};
+
+/// The journal of an accepted job whose body asks nothing is legal and tells the whole schedule, whatever its events are.
+pub fn journals_are_legal()
+    ensures { (job : Job) → IsAccepted job → AsksNothing job → IsLegalWhole job (journal_of job) }
+{}
+
+/// Where each process that wasn't killed has ended behind the tail of such a run, the journal shows an end or a kill of each; and where
+/// it shows that, each has ended.
+pub fn journals_show_all_ends()
+    ensures once_over { (job : Job) → IsAccepted job → AsksNothing job
+        → all_over (job_setup job) (whole (job_setup job) (rest_bound_of job) (bound_of job) (moments_of job)) ≡ true → AllHaveEnded job (journal_of job) }
+    ensures only_then { (job : Job) → IsAccepted job → AsksNothing job
+        → AllHaveEnded job (journal_of job) → all_over (job_setup job) (whole (job_setup job) (rest_bound_of job) (bound_of job) (moments_of job)) ≡ true }
+{}
