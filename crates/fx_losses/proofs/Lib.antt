@@ -27,3 +27,8 @@ pub mod Hearing
 pub mod Losing
 pub mod Legality
 pub mod Accepted
+pub mod Gone
+pub mod Sparing
+pub mod Asides
+pub mod AsideSteps
+pub mod Showing
