@@ -21,6 +21,8 @@ pub mod Closings
 pub mod Openings
 pub mod Schedule
 pub mod Moments
+pub mod Asides
+pub mod Plays
 pub mod Deeds
 pub mod Legally
 pub mod Hearing
