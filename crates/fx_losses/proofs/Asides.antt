@@ -1,20 +1,15 @@
 -- Deeds outside the ballots of epochs: the node stays in its epoch, has its place, and says nothing in such a ballot.
-use Rattle.std.proofs.Common.{◌≡◌, ◌≢◌, ℕ, Bool, true, false, ◌==◌, List, [], ◌∷◌, ◌++◌, map, refl, sym, ap, ◌∙◌, arith}
+use Rattle.std.proofs.Common.{◌≡◌, ◌≢◌, ℕ, Bool, true, false, ◌==◌, List, [], ◌∷◌, ◌++◌, map, refl, ap, ◌∙◌, arith}
 use Rattle.std.specs.Prelude.{if◌then◌else◌, not}
 use Rattle.std.specs.List.{flat_map, filter, enumerate_from}
 use Rattle.std.proofs.lemmas.Bool.Decides.{nat_tests}
 use Rattle.fx_item.specs.declared.item.Item.{Item}
-use Rattle.fx_machine.specs.Asking.{enters}
-use Rattle.fx_machine.specs.Closing.{shares_for, is_keeper}
-use Rattle.fx_machine.specs.Creating.{creation, meant_for, needs_help}
-use Rattle.fx_machine.specs.Nodes.{Node, Act, Stage, members, to_others, to_places, keeping, writing, saying}
-use Rattle.fx_machine.specs.Setup.{Setup}
+use Rattle.fx_machine.specs.Nodes.{Node, Act, members, to_places, writing, saying}
 use Rattle.fx_machine.specs.Texts as text
 use Rattle.fx_machine.specs.Texts.{Text, Known}
 use Rattle.fx_machine.specs.Waits.{Error, ByLoss, ByLeaving, returns_error}
-use Rattle.fx_machine.specs.Creating.{Creation}
 use Rattle.fx_calm.proofs.Lists.{Each, each_append}
-use Rattle.fx_losses.specs.Eras.{Era, era_of}
+use Rattle.fx_losses.specs.Eras.{era_of}
 use Rattle.fx_losses.proofs.Shows.{is_placed}
 
 -- a text of no ballot at the begin of an epoch

@@ -112,11 +112,11 @@ module _ (job : Job) (asks : AsksNothing job) (ps : List ℕ) (p : ℕ) (w : Wor
   pub acts_legally : Legally job ps (does (job_setup job) p act w)
   acts_legally = record {
     worlds = _;
-    fate = o.fate_now;
-    shows = shows_step s p act o.said o.to w is.worlds is.fate o.fate_now o.after on o.steps o.deems is.shows;
-    truthful = truthful_step s p act o.said o.to w is.worlds is.fate o.fate_now o.after on o.steps is.shows (λ d x i. era_grows (first_era s) is.fate o.fate_now o.deems.grows d x i) o.saying o.sending is.truthful;
+    fate = o.plays.fate_now;
+    shows = shows_step s p act o.plays.said o.plays.to w is.worlds is.fate o.plays.fate_now o.plays.after on o.plays.steps o.plays.deems is.shows;
+    truthful = truthful_step s p act o.plays.said o.plays.to w is.worlds is.fate o.plays.fate_now o.plays.after on o.plays.steps is.shows (λ d x i. era_grows (first_era s) is.fate o.plays.fate_now o.plays.deems.grows d x i) o.plays.saying o.plays.sending is.truthful;
     goes = subst (GoesOn job (first_ledger job)) (sym more) (goes_on_more job (first_ledger job) (noted w.items) (noted act.items) is.goes o.goes);
-    linked = subst (Linked job (does s p act w) _ o.fate_now) (sym ledger_now) (linked_step job p act w is.worlds is.fate o.fate_now o.after l m (up_parts s w p on).1 o.links is.linked);
+    linked = subst (Linked job (does s p act w) _ o.plays.fate_now) (sym ledger_now) (linked_step job p act w is.worlds is.fate o.plays.fate_now o.plays.after l m (up_parts s w p on).1 o.links is.linked);
     kinds = o.kinds;
     losses = subst (RepairLosses job (first_ledger job)) (sym more) (losses_more job (first_ledger job) (noted w.items) (noted act.items) is.losses o.losses);
     due = subst (λ (x : Ledger). due_kills x.stands x.kills ≡ due_kills x.stands ps) (sym ledger_now)

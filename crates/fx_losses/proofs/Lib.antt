@@ -23,6 +23,7 @@ pub mod Schedule
 pub mod Moments
 pub mod Asides
 pub mod Plays
+pub mod Worlds
 pub mod Deeds
 pub mod Legally
 pub mod Hearing

@@ -1,29 +1,26 @@
 -- Each deed of a node, whatever its body asks, is a step in the ballots of epochs.
-use Rattle.std.proofs.Common.{◌≡◌, ◌≢◌, ◌<◌, ℕ, zero, suc, Bool, true, false, ◌==◌, List, [], ◌∷◌, ◌++◌, map, length, Option, Some, None, arith, refl, sym, ap, subst, ◌∙◌}
-use Rattle.std.specs.Prelude.{if◌then◌else◌, not, nat_lt}
+use Rattle.std.proofs.Common.{◌≡◌, ◌<◌, ℕ, suc, Bool, true, false, ◌==◌, List, [], ◌∷◌, ◌++◌, map, Option, Some, arith, refl, sym, ap, subst, ◌∙◌}
+use Rattle.std.specs.Prelude.{if◌then◌else◌, not}
 use Rattle.std.specs.List.{filter}
 use Rattle.std.proofs.lemmas.Bool.Decides.{nat_tests}
 use Rattle.fx_ballot.specs.declared.poll.Poll.{Poll}
 use Rattle.fx_ballot.specs.declared.poll.Poll.TheVariants as poll
 use Rattle.fx_ballot.specs.Laws.{vote_of, estimate_of}
 use Rattle.fx_ballot.specs.Names.{seat_of, has}
-use Rattle.fx_ballot.specs.Turn.{Phase, Outside, Message, Turn}
+use Rattle.fx_ballot.specs.Turn.{Phase, Outside}
 use Rattle.fx_ballot.specs.World.{put}
 use Rattle.fx_ballot.specs.World as ballot
 use Rattle.fx_comm.specs.Seats.{has_place}
-use Rattle.fx_item.specs.declared.item.Item.{Item}
 use Rattle.fx_link.specs.declared.slot.Slot.{Slot}
 use Rattle.fx_link.specs.declared.slot.Slot.TheVariants as slot
 use Rattle.fx_walk.specs.declared.wanted.Wanted.{Wanted}
 use Rattle.fx_walk.specs.Walk.{Walk, Reply}
 use Rattle.fx_machine.specs.Ballots.{voters, joined, moves, speaks, repairs, ends, arrived, is_end}
-use Rattle.fx_machine.specs.Calls.{balloting}
 use Rattle.fx_machine.specs.Asking.{part, frozen}
 use Rattle.fx_machine.specs.Creating.{creation, meant_for, needs_help, help_for, give_by, own_snapshots}
 use Rattle.fx_machine.specs.Closing.{packed, is_keeper, shares_for}
 use Rattle.fx_machine.specs.Gathering.{target_of}
 use Rattle.fx_machine.specs.Groups.{known_of}
-use Rattle.fx_machine.specs.Local.{refusal_of}
 use Rattle.fx_machine.specs.Nodes.{size, my_place, Node, Act, Stage, Core, Begins, Joining, Arrived, Walking, Calling, Failed, Over, has_ended, to_others}
 use Rattle.fx_machine.specs.Reading.{is_join, next_ballot, turn_in}
 use Rattle.fx_machine.specs.Setup.{Setup}
@@ -32,7 +29,7 @@ use Rattle.fx_machine.specs.Texts.{Text}
 use Rattle.fx_deeds.specs.Deeds.{AsksFor, IsIn, OfEpoch, OfCall, Reason, First, HelpsOut, HasFailed, IsDone, Deed, Joins, Moves, Speaks, EndsAll, Repairs, Inits, PassesOn, PrintsOut, IsRefused, Attaches, Stores, Commits, Restores, EntersBarrier, EntersReduction, EntersShift, EntersAgreement, EntersDeletion, EntersClosing, EntersCreation, PassesBarrier, Reduces, Shifts, GathersNoMore, VotesNo, VotesYes, VotesFresh, HelpsAndGives, VotesFinding, ReturnsError, ReturnsBits, Closes, Creates, Deletes}
 use Rattle.fx_fleet.specs.World.{World, up, sent_to}
 use Rattle.fx_calm.proofs.Lists.{Each, each_append, each_weaker, chosen}
-use Rattle.fx_losses.specs.Eras.{Era, first_era, era_of, era}
+use Rattle.fx_losses.specs.Eras.{Era, era_of}
 use Rattle.fx_losses.proofs.Actions.{member, plain_steps, deems_same, behind_join, join_steps, join_deems, join_vote}
 use Rattle.fx_losses.proofs.Asides.{IsOfCall, Aside, if_there, places_sent, sends_aside, writes_aside, says_aside, error_aside}
 use Rattle.fx_losses.proofs.Decides.{next_steps, next_deems, end_steps, end_deems}
@@ -63,11 +60,11 @@ others_true Is t is me b all = sent_all Is t is (filter (λ q. not (q == me)) al
 
 -- ---- texts of calls
 
-sent_of_call : (b : ℕ) (xs : List (ℕ × Text)) → Each (λ (x : ℕ × Text). IsOfCall x.1) xs → Each IsOfCall (sent_to b xs)
+pub sent_of_call : (b : ℕ) (xs : List (ℕ × Text)) → Each (λ (x : ℕ × Text). IsOfCall x.1) xs → Each IsOfCall (sent_to b xs)
 sent_of_call b [] all = tt
 sent_of_call b (x ∷ xs) all = chosen (Each IsOfCall) (x.0 == b) (x.1 ∷ sent_to b xs) (sent_to b xs) (λ e. (all.0, sent_of_call b xs all.1)) (λ e. sent_of_call b xs all.1)
 
-of_no_epoch : (e : ℕ) (ts : List Text) → Each IsOfCall ts → of_epoch e ts ≡ []
+pub of_no_epoch : (e : ℕ) (ts : List Text) → Each IsOfCall ts → of_epoch e ts ≡ []
 of_no_epoch e [] all = refl
 of_no_epoch e (text.Join d x ∷ ts) all = absurd all.0
 of_no_epoch e (text.Jest d r slots ∷ ts) all = absurd all.0
@@ -79,7 +76,7 @@ of_no_epoch e (text.Tell d k known ∷ ts) all = of_no_epoch e ts all.1
 of_no_epoch e (text.Help d k packed ∷ ts) all = of_no_epoch e ts all.1
 of_no_epoch e (text.Give d k packed ∷ ts) all = of_no_epoch e ts all.1
 
-call_true : (s : Setup) (z : ℕ → ballot.World) (fate : ℕ → Option (List Slot)) (c : ℕ) (t : Text) → IsOfCall t → IsTrue s z fate c t
+pub call_true : (s : Setup) (z : ℕ → ballot.World) (fate : ℕ → Option (List Slot)) (c : ℕ) (t : Text) → IsOfCall t → IsTrue s z fate c t
 call_true s z fate c (text.Join d x) is = absurd is
 call_true s z fate c (text.Jest d r slots) is = absurd is
 call_true s z fate c (text.Part d k values) is = tt
@@ -92,7 +89,7 @@ call_true s z fate c (text.Give d k packed) is = tt
 
 -- ---- stages with a place
 
-placed_begins : (a : Stage) → is_placed a ≡ true → is_begin a ≡ false
+pub placed_begins : (a : Stage) → is_placed a ≡ true → is_begin a ≡ false
 placed_begins Begins e = absurd (let bad : false ≡ true = e in cc)
 placed_begins (Joining phase) e = refl
 placed_begins Arrived e = refl
@@ -101,7 +98,7 @@ placed_begins (Calling core) e = refl
 placed_begins Failed e = refl
 placed_begins Over e = refl
 
-placed_outside : (a : Stage) → is_placed a ≡ true → phase_of a ≡ Outside
+pub placed_outside : (a : Stage) → is_placed a ≡ true → phase_of a ≡ Outside
 placed_outside Begins e = refl
 placed_outside (Joining phase) e = absurd (let bad : false ≡ true = e in cc)
 placed_outside Arrived e = refl
@@ -110,7 +107,7 @@ placed_outside (Calling core) e = refl
 placed_outside Failed e = refl
 placed_outside Over e = refl
 
-placed_later : (a : Stage) → is_placed a ≡ true → is_later a ≡ true
+pub placed_later : (a : Stage) → is_placed a ≡ true → is_later a ≡ true
 placed_later Begins e = e
 placed_later (Joining phase) e = e
 placed_later Arrived e = refl
@@ -119,7 +116,7 @@ placed_later (Calling core) e = e
 placed_later Failed e = e
 placed_later Over e = e
 
-placed_goes : (n : Node) → is_placed n.stage ≡ true → has_ended n ≡ false
+pub placed_goes : (n : Node) → is_placed n.stage ≡ true → has_ended n ≡ false
 placed_goes n = of n.stage
   where
     of : (a : Stage) → is_placed a ≡ true → has_ended (record n { stage = a }) ≡ false
@@ -141,51 +138,51 @@ module _ (s : Setup) (w : World) (z : ℕ → ballot.World) (fate : ℕ → Opti
   abbrev d : ℕ
   d = n.epoch
 
-  k : (p < s.procs) × (w.killed p ≡ false) × (has_ended n ≡ false)
-  k = up_parts s w p here
+  pub up_facts : (p < s.procs) × (w.killed p ≡ false) × (has_ended (w.node p) ≡ false)
+  up_facts = up_parts s w p here
 
-  own : n.me ≡ p
-  own = (h.sane p k.1).me
+  pub own_name : (w.node p).me ≡ p
+  own_name = (h.sane p up_facts.1).me
 
   -- ---- beside the ballots
 
-  aside_plays : (act : Act) → Aside n act → phase_of n.stage ≡ Outside → 0 < d → has_place n.comm p ≡ true → Plays s p act w z fate
+  pub aside_acted : (act : Act) (a : Aside (w.node p) act) → Acted p (w.node p) act a.said (λ b. false)
+  aside_acted act a = record {
+    own = subst (λ (o : ℕ). act.node.texts o ≡ n.texts o ++ a.said) own_name a.own;
+    other = λ c ne. a.other c (λ e. ne (e ∙ own_name));
+    lost = λ c. ap (λ (f : ℕ → Bool). f c) a.lost;
+    sends = λ e b ne. of_no_epoch e (sent_to b act.sends) (sent_of_call b act.sends a.sends);
+  }
+
+  pub aside_sane : (act : Act) → Aside (w.node p) act → 0 < (w.node p).epoch → has_place (w.node p).comm p ≡ true → Sane s p act.node
+  aside_sane act a later place = record {
+    me = a.me ∙ own_name;
+    fresh = λ e. absurd (let bad : true ≡ false = sym e ∙ placed_begins act.node.stage a.placed in cc);
+    later = λ e. subst (λ (o : ℕ). 0 < o) (sym a.epoch) later;
+    placed = λ e. ap (λ (o : Era). has_place o.comm p) a.era ∙ place;
+    inside = λ phase e. absurd (let bad : true ≡ false = sym a.placed ∙ ap is_placed e in cc);
+    mine = λ l. ap (λ (o : Era). has o.who p) a.era ∙ (h.sane p up_facts.1).mine l;
+  }
+
+  abbrev pub aside_plays : (act : Act) → Aside n act → phase_of n.stage ≡ Outside → 0 < d → has_place n.comm p ≡ true → Plays s p act w z fate
   aside_plays act a out later place = record {
     said = a.said;
     to = λ b. false;
     after = z d;
     fate_now = fate;
-    steps = plain_steps s p act a.said (λ b. false) w z fate here h acted (λ e. of_no_epoch e a.said a.saying) a.epoch (placed_goes act.node a.placed) (out ∙ sym (placed_outside act.node.stage a.placed)) sane;
-    deems = deems_same s p act w z fate (z d) k.1 (h.owes d) a.epoch a.era a.role (placed_goes act.node a.placed) h;
+    steps = plain_steps s p act a.said (λ b. false) w z fate here h (aside_acted act a) (λ e. of_no_epoch e a.said a.saying) a.epoch (placed_goes act.node a.placed) (out ∙ sym (placed_outside act.node.stage a.placed)) (aside_sane act a later place);
+    deems = deems_same s p act w z fate (z d) up_facts.1 (h.owes d) a.epoch a.era a.role (placed_goes act.node a.placed) h;
     saying = each_weaker IsOfCall (IsTrue s (at_one d (z d) z) fate p) (λ t is. call_true s (at_one d (z d) z) fate p t is) a.said a.saying;
     sending = λ b. each_weaker IsOfCall (IsTrue s (at_one d (z d) z) fate p) (λ t is. call_true s (at_one d (z d) z) fate p t is) (sent_to b act.sends) (sent_of_call b act.sends a.sends);
   }
-    where
-      acted : Acted p n act a.said (λ b. false)
-      acted = record {
-        own = subst (λ (o : ℕ). act.node.texts o ≡ n.texts o ++ a.said) own a.own;
-        other = λ c ne. a.other c (λ e. ne (e ∙ own));
-        lost = λ c. ap (λ (f : ℕ → Bool). f c) a.lost;
-        sends = λ e b ne. of_no_epoch e (sent_to b act.sends) (sent_of_call b act.sends a.sends);
-      }
-
-      sane : Sane s p act.node
-      sane = record {
-        me = a.me ∙ own;
-        fresh = λ e. absurd (let bad : true ≡ false = sym e ∙ placed_begins act.node.stage a.placed in cc);
-        later = λ e. subst (λ (o : ℕ). 0 < o) (sym a.epoch) later;
-        placed = λ e. ap (λ (o : Era). has_place o.comm p) a.era ∙ place;
-        inside = λ phase e. absurd (let bad : true ≡ false = sym a.placed ∙ ap is_placed e in cc);
-        mine = λ l. ap (λ (o : Era). has o.who p) a.era ∙ (h.sane p k.1).mine l;
-      }
 
   -- a step of a process that has a place, in its walk, in a call or behind one
-  placed_plays : (act : Act) → Aside n act → is_placed n.stage ≡ true → Plays s p act w z fate
-  placed_plays act a e = aside_plays act a (placed_outside n.stage e) ((h.sane p k.1).later (placed_later n.stage e)) ((h.sane p k.1).placed e)
+  abbrev placed_plays : (act : Act) → Aside n act → is_placed n.stage ≡ true → Plays s p act w z fate
+  placed_plays act a e = aside_plays act a (placed_outside n.stage e) ((h.sane p up_facts.1).later (placed_later n.stage e)) ((h.sane p up_facts.1).placed e)
 
   -- ---- joins
 
-  pub join_plays : (kind : Slot) → phase_of (w.node p).stage ≡ Outside → is_join (suc (w.node p).epoch) kind ≡ true → Plays s p (joined kind (w.node p)) w z fate
+  abbrev pub join_plays : (kind : Slot) → phase_of (w.node p).stage ≡ Outside → is_join (suc (w.node p).epoch) kind ≡ true → Plays s p (joined kind (w.node p)) w z fate
   join_plays kind out is = record {
     said = text.Join (suc d) kind ∷ [];
     to = member n.present;
@@ -207,10 +204,10 @@ module _ (s : Setup) (w : World) (z : ℕ → ballot.World) (fate : ℕ → Opti
   is_out kind (IsDone state at walk) = ap phase_of at
 
   pub is_a_join : (kind : Slot) → Reason (w.node p) kind → is_join (suc (w.node p).epoch) kind ≡ true
-  is_a_join kind (First at) = subst (λ (o : ℕ). is_join (suc o) slot.Start ≡ true) (sym ((h.sane p k.1).fresh (ap is_begin at))) refl
-  is_a_join kind (HelpsOut at place may) = not_first d ((h.sane p k.1).later (ap is_later at))
-  is_a_join kind (HasFailed at) = not_first d ((h.sane p k.1).later (ap is_later at))
-  is_a_join kind (IsDone state at walk) = not_first d ((h.sane p k.1).later (ap is_later at))
+  is_a_join kind (First at) = subst (λ (o : ℕ). is_join (suc o) slot.Start ≡ true) (sym ((h.sane p up_facts.1).fresh (ap is_begin at))) refl
+  is_a_join kind (HelpsOut at place may) = not_first d ((h.sane p up_facts.1).later (ap is_later at))
+  is_a_join kind (HasFailed at) = not_first d ((h.sane p up_facts.1).later (ap is_later at))
+  is_a_join kind (IsDone state at walk) = not_first d ((h.sane p up_facts.1).later (ap is_later at))
 
   -- ---- turns in the ballot
 
@@ -221,7 +218,7 @@ module _ (s : Setup) (w : World) (z : ℕ → ballot.World) (fate : ℕ → Opti
     abbrev phase : Phase
     phase = (turn_in (next_ballot n) n old).phase
 
-    pub moves_plays : (turn_in (next_ballot (w.node p)) (w.node p) old).poll ≡ poll.Moved → Plays s p (moves (w.node p) Joining (turn_in (next_ballot (w.node p)) (w.node p) old).phase) w z fate
+    abbrev pub moves_plays : (turn_in (next_ballot (w.node p)) (w.node p) old).poll ≡ poll.Moved → Plays s p (moves (w.node p) Joining (turn_in (next_ballot (w.node p)) (w.node p) old).phase) w z fate
     moves_plays e = record {
       said = [];
       to = λ b. false;
@@ -234,7 +231,7 @@ module _ (s : Setup) (w : World) (z : ℕ → ballot.World) (fate : ℕ → Opti
     }
 
     module _ (slots : List Slot) where
-      pub speaks_plays : (turn_in (next_ballot (w.node p)) (w.node p) old).poll ≡ poll.SendEstimate slots
+      abbrev pub speaks_plays : (turn_in (next_ballot (w.node p)) (w.node p) old).poll ≡ poll.SendEstimate slots
           → Plays s p (speaks (next_ballot (w.node p)) (w.node p) Joining (turn_in (next_ballot (w.node p)) (w.node p) old).phase slots) w z fate
       speaks_plays e = record {
         said = text.Jest (suc d) (seat_of n.present n.me) slots ∷ [];
@@ -250,14 +247,14 @@ module _ (s : Setup) (w : World) (z : ℕ → ballot.World) (fate : ℕ → Opti
           said_true : IsTrue s (at_one d (after_turn w z p (record { phase = phase; poll = poll.SendEstimate slots })) z) fate p (text.Jest (suc d) (seat_of n.present n.me) slots)
           said_true = record {
             era_then = era_of n;
-            at = h.here p k.1;
-            seated = (h.sane p k.1).mine k.0;
-            round = ap (seat_of n.present) own;
+            at = h.here p up_facts.1;
+            seated = (h.sane p up_facts.1).mine up_facts.0;
+            round = ap (seat_of n.present) own_name;
             said = ap (λ (o : ballot.World). estimate_of o p) (one_here d (after_turn w z p (record { phase = phase; poll = poll.SendEstimate slots })) z)
                 ∙ spoken_said s w z fate p here h old at phase slots (polled old (poll.SendEstimate slots) e);
           }
 
-      pub ends_plays : (turn_in (next_ballot (w.node p)) (w.node p) old).poll ≡ poll.Decided slots → is_end (w.node p) slots ≡ true → Plays s p (ends (w.node p)) w z fate
+      abbrev pub ends_plays : (turn_in (next_ballot (w.node p)) (w.node p) old).poll ≡ poll.Decided slots → is_end (w.node p) slots ≡ true → Plays s p (ends (w.node p)) w z fate
       ends_plays e last = record {
         said = [];
         to = λ b. false;
@@ -269,7 +266,7 @@ module _ (s : Setup) (w : World) (z : ℕ → ballot.World) (fate : ℕ → Opti
         sending = λ b. tt;
       }
 
-      pub repairs_plays : (turn_in (next_ballot (w.node p)) (w.node p) old).poll ≡ poll.Decided slots → is_end (w.node p) slots ≡ false
+      abbrev pub repairs_plays : (turn_in (next_ballot (w.node p)) (w.node p) old).poll ≡ poll.Decided slots → is_end (w.node p) slots ≡ false
           → Plays s p (repairs s (arrived (voters (is_join (suc (w.node p).epoch)) (w.node p).present slots) (w.node p))) w z fate
       repairs_plays e goes_on = record {
         said = [];
@@ -284,10 +281,10 @@ module _ (s : Setup) (w : World) (z : ℕ → ballot.World) (fate : ℕ → Opti
 
   -- ---- along the walk and in calls
 
-  pub inits_plays : (act : Act) → Aside (w.node p) act → (w.node p).stage ≡ Arrived → has_place (w.node p).comm (w.node p).me ≡ true → Plays s p act w z fate
-  inits_plays act a at place = aside_plays act a (ap phase_of at) ((h.sane p k.1).later (ap is_later at)) (ap (has_place n.comm) (sym own) ∙ place)
+  abbrev pub inits_plays : (act : Act) → Aside (w.node p) act → (w.node p).stage ≡ Arrived → has_place (w.node p).comm (w.node p).me ≡ true → Plays s p act w z fate
+  inits_plays act a at place = aside_plays act a (ap phase_of at) ((h.sane p up_facts.1).later (ap is_later at)) (ap (has_place n.comm) (sym own_name) ∙ place)
 
-  walks : (act : Act) → Aside n act → n.stage ≡ Walking → Plays s p act w z fate
+  abbrev pub walks : (act : Act) → Aside n act → n.stage ≡ Walking → Plays s p act w z fate
   walks act a at = placed_plays act a (ap is_placed at)
 
   asks : (act : Act) → Aside n act → (v : Wanted) (rest : Reply → Walk) → AsksFor n v rest → Plays s p act w z fate

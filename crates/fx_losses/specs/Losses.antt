@@ -1,9 +1,12 @@
--- What a journal tells of losses.
-use Rattle.std.specs.Prelude.{◌≡◌, ℕ, zero, suc, true, List, [], ◌∷◌}
+-- What a journal tells of losses, and what a world shows of epochs.
+use Rattle.std.specs.Prelude.{◌≡◌, ◌<◌, ℕ, zero, suc, true, false, List, [], ◌∷◌}
+use Rattle.fx_ballot.specs.Names.{has}
 use Rattle.fx_comm.specs.Seats.{has_place}
 use Rattle.fx_item.specs.declared.item.Item.{Item}
 use Rattle.fx_item.specs.declared.item.Item.TheVariants as item
 use Rattle.fx_script.specs.declared.job.Job.{Job}
+use Rattle.fx_machine.specs.Setup.{Setup}
+use Rattle.fx_fleet.specs.World.{World}
 use Rattle.fx_legal.specs.Effects.{written}
 use Rattle.fx_legal.specs.Ledger.{Ledger, comm_in, first_ledger}
 use Rattle.fx_legal.specs.Stands.{is_killed}
@@ -30,3 +33,11 @@ RepairLosses job l (it ∷ items) = IsOwedLoss l it × RepairLosses job (written
 -- each epoch of a journal has its loss
 abbrev pub EachEpochHasItsLoss : Job → List Item → Type 0
 EachEpochHasItsLoss job items = RepairLosses job (first_ledger job) items
+
+-- ---- worlds
+
+-- processes that weren't killed, in one epoch, have the same present set and communicator of it; and each is present in its own
+pub record EpochsAgree (s : Setup) (w : World) : Type 0 where
+  pub present : (p q : ℕ) → w.killed p ≡ false → w.killed q ≡ false → (w.node p).epoch ≡ (w.node q).epoch → (w.node p).present ≡ (w.node q).present
+  pub comm : (p q : ℕ) → w.killed p ≡ false → w.killed q ≡ false → (w.node p).epoch ≡ (w.node q).epoch → (w.node p).comm ≡ (w.node q).comm
+  pub there : (p : ℕ) → p < s.procs → w.killed p ≡ false → has (w.node p).present p ≡ true

@@ -1,13 +1,14 @@
 //! Laws of runs with any events, kills and notices among them.
 
-ghost use Rattle.std.specs.Prelude.{◌≡◌, ℕ, true};
+ghost use Rattle.std.specs.Prelude.{◌≡◌, ℕ, true, List};
 ghost use Rattle.fx_script.specs.declared.job.Job.{Job};
 ghost use Rattle.fx_check.specs.Acceptance.{IsAccepted};
 ghost use Rattle.fx_check.specs.Work.{bound_of};
-ghost use Rattle.fx_fleet.specs.Rounds.{all_over, whole};
+ghost use Rattle.fx_machine.specs.Setup.{Setup};
+ghost use Rattle.fx_fleet.specs.Rounds.{Moment, all_over, whole};
 ghost use Rattle.fx_fleet.specs.Runs.{AsksNothing, job_setup, moments_of, rest_bound_of, journal_of};
 ghost use Rattle.fx_legal.specs.Legal.{IsLegalWhole, AllHaveEnded};
-ghost use Rattle.fx_losses.specs.Losses.{EachEpochHasItsLoss};
+ghost use Rattle.fx_losses.specs.Losses.{EachEpochHasItsLoss, EpochsAgree};
 
 /// The journal of an accepted job whose body asks nothing is legal and tells the whole schedule, whatever its events are.
 pub fn journals_are_legal()
@@ -26,4 +27,10 @@ pub fn journals_show_all_ends()
 /// Each epoch of such a journal has its loss: before it is repaired, a process that had a place in the epoch before it was killed, from epoch 2 on.
 pub fn each_epoch_has_its_loss()
     ensures { (job : Job) → IsAccepted job → AsksNothing job → EachEpochHasItsLoss job (journal_of job) }
+{}
+
+/// Whatever the bodies ask: in every world that arises, of processes that weren't killed those in one epoch have the same present set and
+/// communicator, and each is present in its own epoch.
+pub fn epochs_agree()
+    ensures { (s : Setup) (fuel bound : ℕ) (moments : List Moment) → EpochsAgree s (whole s fuel bound moments) }
 {}
