@@ -30,3 +30,4 @@ pub mod Hearing
 pub mod Losing
 pub mod Legality
 pub mod Accepted
+pub mod Sizes

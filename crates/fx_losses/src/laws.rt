@@ -5,10 +5,11 @@ ghost use Rattle.fx_script.specs.declared.job.Job.{Job};
 ghost use Rattle.fx_check.specs.Acceptance.{IsAccepted};
 ghost use Rattle.fx_check.specs.Work.{bound_of};
 ghost use Rattle.fx_machine.specs.Setup.{Setup};
+ghost use Rattle.fx_item.specs.declared.item.Item.{Item};
 ghost use Rattle.fx_fleet.specs.Rounds.{Moment, all_over, whole};
 ghost use Rattle.fx_fleet.specs.Runs.{AsksNothing, job_setup, moments_of, rest_bound_of, journal_of};
-ghost use Rattle.fx_legal.specs.Legal.{IsLegalWhole, AllHaveEnded};
-ghost use Rattle.fx_losses.specs.Losses.{EachEpochHasItsLoss, EpochsAgree};
+ghost use Rattle.fx_legal.specs.Legal.{IsLegal, IsLegalWhole, ledger_of, AllHaveEnded};
+ghost use Rattle.fx_losses.specs.Losses.{EachEpochHasItsLoss, EpochsAreSized, EpochsAgree};
 
 /// The journal of an accepted job whose body asks nothing is legal and tells the whole schedule, whatever its events are.
 pub fn journals_are_legal()
@@ -27,6 +28,11 @@ pub fn journals_show_all_ends()
 /// Each epoch of such a journal has its loss: before it is repaired, a process that had a place in the epoch before it was killed, from epoch 2 on.
 pub fn each_epoch_has_its_loss()
     ensures { (job : Job) → IsAccepted job → AsksNothing job → EachEpochHasItsLoss job (journal_of job) }
+{}
+
+/// In each legal journal of an accepted job the size of an epoch is the lesser of the ranks and the number of those present.
+pub fn epochs_are_sized()
+    ensures { (job : Job) → IsAccepted job → (items : List Item) → IsLegal job items → EpochsAreSized job (ledger_of job items) }
 {}
 
 /// Whatever the bodies ask: in every world that arises, of processes that weren't killed those in one epoch have the same present set and
