@@ -31,3 +31,4 @@ pub mod Losing
 pub mod Legality
 pub mod Accepted
 pub mod Sizes
+pub mod Row
