@@ -7,7 +7,7 @@ use Rattle.fx_check.specs.Work.{bound_of}
 use Rattle.fx_link.specs.declared.slot.Slot.{Slot}
 use Rattle.fx_script.specs.declared.job.Job.{Job}
 use Rattle.fx_store.proofs.Mirrors.{each_at, each_from}
-use Rattle.fx_fleet.specs.Rounds.{all_over, whole}
+use Rattle.fx_fleet.specs.Rounds.{journal, all_over, whole}
 use Rattle.fx_fleet.specs.Runs.{AsksNothing, job_setup, moments_of, rest_bound_of, journal_of}
 use Rattle.fx_fleet.specs.World.{World, first_world, up}
 use Rattle.fx_calm.proofs.Lists.{Each}
@@ -100,8 +100,11 @@ KillsProcesses job = Each (λ p. p < procs_of job) (kills_of (moments_of job))
 pub legally : (job : Job) → AsksNothing job → KillsProcesses job → (fuel bound : ℕ) → Legally job [] (whole (job_setup job) fuel bound (moments_of job))
 legally job asks few fuel bound = always_along (job_setup job) (Legally job) (kept job asks) (moments_of job) few (begins job) fuel bound
 
+pub is_legal_within : (job : Job) → AsksNothing job → KillsProcesses job → (fuel bound : ℕ) → IsLegalWhole job (journal (job_setup job) fuel bound (moments_of job))
+is_legal_within job asks few fuel bound = let is = legally job asks few fuel bound in (is.goes, is.due)
+
 pub is_legal : (job : Job) → AsksNothing job → KillsProcesses job → IsLegalWhole job (journal_of job)
-is_legal job asks few = let is = legally job asks few (rest_bound_of job) (bound_of job) in (is.goes, is.due)
+is_legal job asks few = is_legal_within job asks few (rest_bound_of job) (bound_of job)
 
 pub has_losses : (job : Job) → AsksNothing job → KillsProcesses job → EachEpochHasItsLoss job (journal_of job)
 has_losses job asks few = (legally job asks few (rest_bound_of job) (bound_of job)).losses

@@ -4,7 +4,7 @@ use Rattle.std.specs.Prelude.{ℕ, pos}
 use Rattle.fx_base.specs.Sets.{those_below}
 use Rattle.fx_base.specs.declared.names.Role.TheVariants as role
 use Rattle.fx_base.specs.declared.spot.Spot.{Spot}
-use Rattle.fx_comm.specs.Seats.{Seat, seat, seats_from}
+use Rattle.fx_comm.specs.Seats.{seat, seats_from}
 use Rattle.fx_fleet.specs.Runs.{AsksNothing, journal_of}
 use Rattle.fx_item.specs.declared.item.Item.{Item}
 use Rattle.fx_item.specs.declared.item.Item.TheVariants as item

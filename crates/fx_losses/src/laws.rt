@@ -6,14 +6,16 @@ ghost use Rattle.fx_check.specs.Acceptance.{IsAccepted};
 ghost use Rattle.fx_check.specs.Work.{bound_of};
 ghost use Rattle.fx_machine.specs.Setup.{Setup};
 ghost use Rattle.fx_item.specs.declared.item.Item.{Item};
-ghost use Rattle.fx_fleet.specs.Rounds.{Moment, all_over, whole};
+ghost use Rattle.fx_fleet.specs.Rounds.{journal, Moment, all_over, whole};
 ghost use Rattle.fx_fleet.specs.Runs.{AsksNothing, job_setup, moments_of, rest_bound_of, journal_of};
 ghost use Rattle.fx_legal.specs.Legal.{IsLegal, IsLegalWhole, ledger_of, AllHaveEnded};
 ghost use Rattle.fx_losses.specs.Losses.{EachEpochHasItsLoss, EpochsAreSized, EpochsAgree};
 
-/// The journal of an accepted job whose body asks nothing is legal and tells the whole schedule, whatever its events are.
+/// The journal of an accepted job whose body asks nothing is legal and tells the whole schedule, whatever its events are; and so it is with
+/// any other fuel of a rest and any other bound of the tail.
 pub fn journals_are_legal()
-    ensures { (job : Job) → IsAccepted job → AsksNothing job → IsLegalWhole job (journal_of job) }
+    ensures whole { (job : Job) → IsAccepted job → AsksNothing job → IsLegalWhole job (journal_of job) }
+    ensures within { (job : Job) → IsAccepted job → AsksNothing job → (fuel bound : ℕ) → IsLegalWhole job (journal (job_setup job) fuel bound (moments_of job)) }
 {}
 
 /// Where each process that wasn't killed has ended behind the tail of such a run, the journal shows an end or a kill of each; and where
