@@ -1,6 +1,6 @@
 -- Each deed of a node, where the body asks nothing, does what it owes to the ballots and to the journal.
 use Rattle.std.proofs.Common.{◌≡◌, ◌≢◌, ◌<◌, ℕ, zero, suc, Bool, true, false, ◌&&◌, ◌||◌, ◌==◌, List, [], ◌∷◌, Option, Some, inl, inr, arith, refl, sym, ap, subst, ◌∙◌}
-use Rattle.std.specs.Prelude.{if◌then◌else◌, not, nat_lt, is_some}
+use Rattle.std.specs.Prelude.{if◌then◌else◌, nat_lt, is_some}
 use Rattle.std.specs.List.{list_any}
 use Rattle.std.proofs.lemmas.Bool.Decides.{nat_tests}
 use Rattle.std.proofs.lemmas.Bool.{cases_eq}
@@ -59,6 +59,7 @@ use Rattle.fx_losses.proofs.Openings.{Wrote, standing, wrote_none, wrote_one, in
 use Rattle.fx_losses.proofs.Readings.{left_joined}
 use Rattle.fx_losses.proofs.Shows.{phase_of, is_begin, is_later, is_placed, role_after, Shows, Truthful, up_parts}
 use Rattle.fx_losses.proofs.Standing.{Like, liked, like_on, HasBegun, Waits, Settled, InBody, OfStage, AtStage}
+use Rattle.fx_losses.proofs.Tests.{both_true, less_is, not_first, or_itself, or_right, some_slot}
 
 -- ---- what a deed owes
 
@@ -78,29 +79,14 @@ any_found test (q ∷ qs) e = here (any_found test qs) (test q) refl e
     here rest true is e = (q, is)
     here rest false is e = rest e
 
-not_first : (d : ℕ) → 0 < d → not (suc d == 1) ≡ true
-not_first d e = grind (arith, nat_tests)
-
-above : (d : ℕ) → 0 < d → nat_lt 0 d ≡ true
-above d e = grind (arith, nat_tests)
-
-both_true : (a b : Bool) → a ≡ true → b ≡ true → (a && b) ≡ true
-both_true a b x y = grind (arith, nat_tests)
-
 -- where one of the members passes it has a place
 member_found : (test : ℕ → Bool) (seats : List Seat) → list_any test (nodes.procs_of seats) ≡ true → (q : ℕ) × (has_place seats q ≡ true) × (test q ≡ true)
 member_found test [] e = absurd (let bad : false ≡ true = e in cc)
 member_found test (s ∷ seats) e = here (member_found test seats) (test s.1.0) refl e
   where
-    this : (a : ℕ) (b : Bool) → ((a == a) || b) ≡ true
-    this a b = grind (arith, nat_tests)
-
-    later : (a b : Bool) → b ≡ true → (a || b) ≡ true
-    later a b e = grind (arith, nat_tests)
-
     here : (list_any test (nodes.procs_of seats) ≡ true → (q : ℕ) × (has_place seats q ≡ true) × (test q ≡ true)) → (b : Bool) → test s.1.0 ≡ b → (b || list_any test (nodes.procs_of seats)) ≡ true → (q : ℕ) × (has_place (s ∷ seats) q ≡ true) × (test q ≡ true)
-    here rest true is e = (s.1.0, this s.1.0 (has_place seats s.1.0), is)
-    here rest false is e = let r = rest e in (r.0, later (s.1.0 == r.0) (has_place seats r.0) r.1, r.2)
+    here rest true is e = (s.1.0, or_itself s.1.0 (has_place seats s.1.0), is)
+    here rest false is e = let r = rest e in (r.0, or_right (s.1.0 == r.0) (has_place seats r.0) r.1, r.2)
 
 pair_same : (a b : ℕ) → ((a == a) && (b == b)) ≡ true
 pair_same a b = grind (arith, nat_tests)
@@ -239,9 +225,6 @@ module _ (job : Job) (asks : AsksNothing job) (w : World) (z : ℕ → ballot.Wo
         here_now : (e : ℕ) → e ≡ d → at_one d after z e ≡ after
         here_now e same = ap (at_one d after z) same ∙ one_here d after z
 
-        some_slot : (x y : Slot) → Some x ≡ Some y → x ≡ y
-        some_slot x y e = cc
-
         own_final : (e q : ℕ) (v : Slot) (y : Era) → e ≡ d → q ≡ p → 0 < e → era (first_era s) fate e ≡ Some y → vote_of after q ≡ Some v → has_place y.comm q ≡ true → v ≡ slot.Final
         own_final e q v y same it_is pos is_now vote place =
             let its : y ≡ era_of n = some_era y (era_of n) (sym is_now ∙ ap (era (first_era s) fate) same ∙ h.here p k.1) in
@@ -309,7 +292,7 @@ module _ (job : Job) (asks : AsksNothing job) (w : World) (z : ℕ → ballot.Wo
       join_does slot.Final (ap phase_of at) (not_first d ((h.sane p k.1).later (ap is_later at)))
       (subst (MayJoin l (suc d) slot.Final) (sym stands) (refl, ap suc (sym b.within)))
       (ap (state_left (blank (facts_of job))) stands ∙ sym (ap (λ (o : Walk). state_at (stop_of o [])) walk))
-      (λ e. absurd (let bad : true ≡ false = sym (both_true (nat_lt 0 d) (has_place n.comm n.me) (above d ((h.sane p k.1).later (ap is_later at))) (ap (has_place n.comm) own ∙ (h.sane p k.1).placed (ap is_placed at))) ∙ e in cc))
+      (λ e. absurd (let bad : true ≡ false = sym (both_true (nat_lt 0 d) (has_place n.comm n.me) (less_is 0 d ((h.sane p k.1).later (ap is_later at))) (ap (has_place n.comm) own ∙ (h.sane p k.1).placed (ap is_placed at))) ∙ e in cc))
       (λ pos place. refl)
 
   -- ---- turns in the ballot

@@ -1,6 +1,6 @@
 -- The journal of a run with any events is legal, and shows all ends.
 use Rattle.std.proofs.lemmas.Bool.Decides.{nat_tests}
-use Rattle.std.proofs.Common.{arith, ◌≡◌, ◌<◌, ℕ, zero, suc, Bool, true, false, ◌==◌, List, [], ◌∷◌, Option, Some, None, refl, sym, ap, subst, ◌∙◌}
+use Rattle.std.proofs.Common.{arith, ◌≡◌, ◌<◌, ℕ, zero, suc, Bool, true, false, List, [], ◌∷◌, Option, Some, None, refl, sym, ap, subst, ◌∙◌}
 use Rattle.std.specs.Prelude.{nat_lt, not, if◌then◌else◌}
 use Rattle.fx_ballot.specs.World.{start}
 use Rattle.fx_check.specs.Work.{bound_of}
@@ -28,6 +28,7 @@ use Rattle.fx_losses.proofs.Legally.{Legally, gone_where_not_up}
 use Rattle.fx_losses.proofs.Legally.{acts_legally}
 use Rattle.fx_losses.proofs.Hearing.{hears_legally, tells_legally}
 use Rattle.fx_losses.proofs.Losing.{loses_legally}
+use Rattle.fx_losses.proofs.Tests.{apart_zero}
 
 -- a kill of who isn't up any more is passed over
 passes_legally : (job : Job) (ps : List ℕ) (p : ℕ) (w : World) → p < procs_of job → up (job_setup job) w p ≡ false → Legally job (p ∷ ps) w → Legally job ps w
@@ -68,9 +69,6 @@ begins job = record {
   where
     below : (a b : ℕ) → nat_lt a b ≡ true → a < b
     below a b e = grind (arith, nat_tests)
-
-    apart_zero : (e : ℕ) → (suc e == 0) ≡ false
-    apart_zero e = grind (arith, nat_tests)
 
     eras : (d : ℕ) → Like (first_ledger job) d (era (first_era (job_setup job)) none_yet d) ((first_ledger job).chapters d)
     eras zero = record {

@@ -1,3 +1,4 @@
+pub mod Tests
 pub mod Texts
 pub mod Eras
 pub mod Shows

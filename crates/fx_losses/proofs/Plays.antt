@@ -1,8 +1,7 @@
 -- Each deed of a node, whatever its body asks, is a step in the ballots of epochs.
-use Rattle.std.proofs.Common.{◌≡◌, ◌<◌, ℕ, suc, Bool, true, false, ◌==◌, List, [], ◌∷◌, ◌++◌, map, Option, Some, arith, refl, sym, ap, subst, ◌∙◌}
+use Rattle.std.proofs.Common.{◌≡◌, ◌<◌, ℕ, suc, Bool, true, false, ◌==◌, List, [], ◌∷◌, ◌++◌, map, Option, Some, refl, sym, ap, subst, ◌∙◌}
 use Rattle.std.specs.Prelude.{if◌then◌else◌, not}
 use Rattle.std.specs.List.{filter}
-use Rattle.std.proofs.lemmas.Bool.Decides.{nat_tests}
 use Rattle.fx_ballot.specs.declared.poll.Poll.{Poll}
 use Rattle.fx_ballot.specs.declared.poll.Poll.TheVariants as poll
 use Rattle.fx_ballot.specs.Laws.{vote_of, estimate_of}
@@ -39,6 +38,7 @@ use Rattle.fx_losses.proofs.Shows.{phase_of, is_begin, is_later, is_placed, Sane
 use Rattle.fx_losses.proofs.Texts.{of_epoch, Acted}
 use Rattle.fx_losses.proofs.Turning.{moved_steps, moved_deems, spoken_steps, spoken_deems, spoken_said}
 use Rattle.fx_losses.proofs.Turns.{after_turn, shown_turn}
+use Rattle.fx_losses.proofs.Tests.{not_first}
 
 -- what a step is in the ballots of epochs
 pub record Plays (s : Setup) (p : ℕ) (act : Act) (w : World) (z : ℕ → ballot.World) (fate : ℕ → Option (List Slot)) : Type 0 where
@@ -127,9 +127,6 @@ placed_goes n = of n.stage
     of (Calling core) e = refl
     of Failed e = refl
     of Over e = absurd (let bad : false ≡ true = e in cc)
-
-not_first : (d : ℕ) → 0 < d → not (suc d == 1) ≡ true
-not_first d e = grind (arith, nat_tests)
 
 module _ (s : Setup) (w : World) (z : ℕ → ballot.World) (fate : ℕ → Option (List Slot)) (p : ℕ) (here : up s w p ≡ true) (h : Shows s w z fate) (tr : Truthful s w z fate) where
   abbrev n : Node

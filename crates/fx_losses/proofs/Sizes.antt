@@ -22,6 +22,7 @@ use Rattle.fx_legal.specs.Rules as rules
 use Rattle.fx_legal.specs.Rules.{MayWrite, IsTheOne}
 use Rattle.fx_legal.specs.Stands.{is_killed}
 use Rattle.fx_losses.specs.Losses.{EpochsAreSized}
+use Rattle.fx_losses.proofs.Tests.{first_of, is_less}
 
 -- ---- counts
 
@@ -107,12 +108,9 @@ new_chapter job l e comm begins is = of (l.chapters (e - 1)) refl
     was_present : (c : Chapter) → l.chapters (e - 1) ≡ Some c → (q : ℕ) → belongs l e comm q ≡ true → c.present q ≡ true
     was_present c at q there = sym (ap (λ (o : Option Chapter). is_in o q) at) ∙ either (has_place comm q) refl there
       where
-        second : (a b : Bool) → (a && b) ≡ true → a ≡ true
-        second a b e = grind (arith, nat_tests)
-
         either : (b : Bool) → has_place comm q ≡ b → (b || (is_present l (e - 1) q && (is_some (l.joined e q) && not (is_killed (l.stands q))))) ≡ true → is_present l (e - 1) q ≡ true
         either true place i = (begins.seated q place).0
-        either false none i = second (is_present l (e - 1) q) _ i
+        either false none i = first_of (is_present l (e - 1) q) _ i
 
     comm_is : (o : Option Chapter) → l.chapters (e - 1) ≡ o → comm ≡ repaired (comm_of o) (belongs l e comm)
     comm_is o at = begins.mended ∙ ap (λ (x : Option Chapter). repaired (comm_of x) (belongs l e comm)) at
@@ -207,14 +205,11 @@ first_sized job some within few = record {
         let a : length (first_seats (ranks_of job)) ≡ ranks_of job = length_first (ranks_of job) in
         let b : length (those_below (λ q. nat_lt q (procs_of job)) 32) ≡ procs_of job = all_below (procs_of job) 32 few in
         omega (arith, a, b, within);
-    below = λ q there. less q (procs_of job) there;
+    below = λ q there. is_less q (procs_of job) there;
     proper = inr (first_comm (ranks_of job) some (omega (arith, within, few)));
   });
 }
   where
-    less : (a b : ℕ) → nat_lt a b ≡ true → a < b
-    less a b e = grind (arith, nat_tests)
-
     of : (c : Chapter) (b : Bool) → cond b (Some (first_chapter job)) None ≡ Some c → first_chapter job ≡ c
     of c true at = some_chapter (first_chapter job) c at
     of c false at = absurd (let bad : None ≡ Some c = at in cc)
