@@ -2,7 +2,6 @@
 use Rattle.std.proofs.Common.{◌≡◌, ℕ, ◌<◌, ◌≢◌, ◌==◌, suc, Bool, true, false, ◌||◌, List, [], ◌∷◌, ◌++◌, map, length, Option, Some, None, inl, inr, arith, refl, subst, sym, ◌∙◌, ap}
 use Rattle.std.specs.Prelude.{if◌then◌else◌, not}
 use Rattle.std.specs.List.{filter}
-use Rattle.std.proofs.lemmas.Bool.Decides.{nat_tests}
 use Rattle.std.proofs.lemmas.Bool.{cases_eq}
 use Rattle.fx_ballot.specs.declared.heard.Heard.{Heard}
 use Rattle.fx_ballot.specs.Laws.{vote_of}
@@ -27,6 +26,8 @@ use Rattle.fx_losses.proofs.Eras.{era_distinct}
 use Rattle.fx_losses.proofs.Moves.{Steps, Deems, quiet_move, some_era}
 use Rattle.fx_losses.proofs.Shows.{phase_of, is_begin, is_later, is_placed, is_decided, Fits, Owes, Sane, Shows, up_parts, now_at}
 use Rattle.fx_losses.proofs.Texts.{append_none, put_same, put_other, of_epoch, heard_of, shown, this_vote, other_vote, Acted, shown_rest, shown_own}
+use Rattle.fx_losses.proofs.Tests.{some_slot}
+use Rattle.fx_calm.proofs.Lists.{equal}
 
 -- a process of the list, as the ballot world tests it
 abbrev pub member : List ℕ → ℕ → Bool
@@ -73,9 +74,6 @@ sent_once : (me b : ℕ) (t : Text) (all : List ℕ) → Distinct all → b ≢ 
 sent_once me b t [] d ne = refl
 sent_once me b t (q ∷ qs) d ne = of (sent_once me b t qs d.1 ne) (q == me) refl (q == b) refl
   where
-    equal : (a c : ℕ) → (a == c) ≡ true → a ≡ c
-    equal a c e = grind (arith, nat_tests)
-
     of : (rest : sent_to b (to_others me qs t) ≡ (if has qs b then t ∷ [] else [])) → (x : Bool) → (q == me) ≡ x → (y : Bool) → (q == b) ≡ y
         → sent_to b (map (λ o. (o, t)) (if not x then q ∷ filter (λ o. not (o == me)) qs else filter (λ o. not (o == me)) qs)) ≡ (if y || has qs b then t ∷ [] else [])
     of rest true e true f = absurd (ne (sym (equal q b f) ∙ equal q me e))
@@ -281,9 +279,6 @@ module _ (s : Setup) (w : World) (z : ℕ → ballot.World) (fate : ℕ → Opti
           sound = sound_enter (length n.present) (seat_at n.present) (member n.present) p vote small outside_here ((h.at d).gone p) kept_here.sound;
           caught = caught_enter (member n.present) (length n.present) (seat_at n.present) (member n.present) p vote small (λ q e. e) no_vote_here ((h.at d).gone p) kept_here.sound.messages kept_here.caught;
         }) (h.owes d)
-      where
-        some_slot : (x y : Slot) → Some x ≡ Some y → x ≡ y
-        some_slot x y e = cc
 
     pub join_deems : is_join (suc (w.node p).epoch) vote ≡ true → Deems s p (joined vote (w.node p)) w z fate fate (behind_join w z p vote)
     join_deems is = deems_same s p act w z fate after k.1 (join_owes is) refl refl refl refl h

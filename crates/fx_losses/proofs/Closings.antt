@@ -53,12 +53,11 @@ use Rattle.fx_losses.proofs.Shows.{EndedAs, Shows, up_parts}
 use Rattle.fx_losses.proofs.Standing.{LikeEra, Like, Liked, liked, unliked, unborn_too, like_on, Waits, Settled, OfStage, AtStage, gone_where_over}
 use Rattle.fx_losses.proofs.Texts.{put_same, put_other}
 use Rattle.fx_losses.proofs.Votes.{Slotted, alive_slot, alive_voter, voter_voted}
+use Rattle.fx_losses.proofs.Tests.{apart_zero, or_left}
+use Rattle.fx_calm.proofs.Lists.{equal}
 
 before : (d : ℕ) → suc d - 1 ≡ d
 before d = omega arith
-
-apart_zero : (e : ℕ) → (suc e == 0) ≡ false
-apart_zero e = grind (arith, nat_tests)
 
 next_apart : (a : ℕ) → suc a ≢ a
 next_apart a = λ e. omega (arith, e)
@@ -67,9 +66,6 @@ in_seats : (present : ℕ → Bool) (seats : List Seat) (p : ℕ) → AllPresent
 in_seats present [] p a e = absurd (let bad : false ≡ true = e in cc)
 in_seats present (s ∷ seats) p a e = of (in_seats present seats p a.1) (s.1.0 == p) refl e
   where
-    equal : (a b : ℕ) → (a == b) ≡ true → a ≡ b
-    equal a b e = grind (arith, nat_tests)
-
     of : (has_place seats p ≡ true → present p ≡ true) → (b : Bool) → (s.1.0 == p) ≡ b → (b || has_place seats p) ≡ true → present p ≡ true
     of later true same h = ap present (sym (equal s.1.0 p same)) ∙ a.0
     of later false same h = later h
@@ -197,6 +193,13 @@ module _ (job : Job) (w : World) (z : ℕ → ballot.World) (fate : ℕ → Opti
           let b : (q : ℕ) × (((z (suc d)).member q).phase ≡ Decided g) = (h.owes (suc d)).by g e in
           absurd (let bad : Outside ≡ Decided g = sym (((h.owes (suc d)).blank none).phase b.0) ∙ b.1 in cc)
 
+  -- where it was decided before, nothing is decided anew
+  all_same : fate d ≡ Some slots → (a : ℕ) → fate_now a ≡ fate a
+  all_same some a = elim (cases_eq a d) [
+    | inl same ↦ subst (λ b. fate_now b ≡ fate b) (sym same) (put_same fate d (Some slots) ∙ sym some)
+    | inr far ↦ put_other fate d a (Some slots) far
+  ]
+
   -- the epochs but the next are the same after the decision
   pub era_same : (e : ℕ) → e ≢ suc (w.node p).epoch → era (first_era (job_setup job)) fate_now e ≡ era (first_era (job_setup job)) fate e
   era_same e ne = elim (same_fate (fate d) refl) [
@@ -207,12 +210,6 @@ module _ (job : Job) (w : World) (z : ℕ → ballot.World) (fate : ℕ → Opti
     | inr some ↦ ap (λ (f : ℕ → Option (List Slot)). era (first_era s) f e) (λ i a. all_same some a i)
   ]
     where
-      all_same : fate d ≡ Some slots → (a : ℕ) → fate_now a ≡ fate a
-      all_same some a = elim (cases_eq a d) [
-        | inl same ↦ subst (λ b. fate_now b ≡ fate b) (sym same) (put_same fate d (Some slots) ∙ sym some)
-        | inr far ↦ put_other fate d a (Some slots) far
-      ]
-
       late : fate d ≡ None → suc (suc d) ≤ e → era (first_era s) fate_now e ≡ era (first_era s) fate e
       late none up =
           let dead : era (first_era s) fate (suc d) ≡ None = next_now None none in
@@ -232,12 +229,6 @@ module _ (job : Job) (w : World) (z : ℕ → ballot.World) (fate : ℕ → Opti
         ];
   }
     where
-      all_same : fate d ≡ Some slots → (a : ℕ) → fate_now a ≡ fate a
-      all_same some a = elim (cases_eq a d) [
-        | inl same ↦ subst (λ b. fate_now b ≡ fate b) (sym same) (put_same fate d (Some slots) ∙ sym some)
-        | inr far ↦ put_other fate d a (Some slots) far
-      ]
-
       newest : (e q : ℕ) (v : Slot) (y : Era) → e ≡ suc d → 0 < e → era (first_era s) fate_now e ≡ Some y → vote_of (z e) q ≡ Some v → has_place y.comm q ≡ true → v ≡ slot.Final
       newest e q v y same pos is_now vote place = elim (same_fate (fate d) refl) [
         | inl none ↦ absurd (let bad : None ≡ Some v = sym (((h.owes (suc d)).blank (next_now None none)).vote q q) ∙ subst (λ o. vote_of (z o) q ≡ Some v) same vote in cc)
@@ -287,9 +278,6 @@ module _ (job : Job) (w : World) (z : ℕ → ballot.World) (fate : ℕ → Opti
 
     placed_in : (q : ℕ) → has_place next.comm q ≡ true → belongs l (suc d) next.comm q ≡ true
     placed_in q e = or_left (has_place next.comm q) _ e
-      where
-        or_left : (a b : Bool) → a ≡ true → (a || b) ≡ true
-        or_left a b e = grind (arith, nat_tests)
 
     mended : next.comm ≡ repaired (comm_in l (suc d - 1)) (belongs l (suc d) next.comm)
     mended =
@@ -401,9 +389,6 @@ module _ (job : Job) (w : World) (z : ℕ → ballot.World) (fate : ℕ → Opti
     }
 
     -- ---- the ledger behind it
-
-    chapter_now : Option Chapter
-    chapter_now = begun_by l (suc d) next.comm (l.chapters (suc d))
 
     -- where the process stands then
     abbrev stand_now : Stand

@@ -1,7 +1,6 @@
 -- A decision: an epoch is born, or a node ends.
 use Rattle.std.proofs.Common.{◌≡◌, ℕ, ◌<◌, ◌≢◌, ◌==◌, zero, suc, Bool, true, false, List, [], length, Option, Some, None, inl, inr, arith, refl, subst, sym, ◌∙◌, ap}
 use Rattle.std.specs.Prelude.{if◌then◌else◌}
-use Rattle.std.proofs.lemmas.Bool.Decides.{nat_tests}
 use Rattle.std.proofs.lemmas.Bool.{cases_eq, cond-false}
 use Rattle.fx_base.specs.declared.names.Role.TheVariants as role
 use Rattle.fx_ballot.specs.declared.poll.Poll.TheVariants as poll
@@ -27,6 +26,7 @@ use Rattle.fx_losses.proofs.Moves.{Steps, Deems, some_era}
 use Rattle.fx_losses.proofs.Shows.{is_later, is_decided, Fits, Owes, Sane, EndedAs, role_after, Shows, up_parts}
 use Rattle.fx_losses.proofs.Texts.{put_same, put_other, Acted, shown_quiet}
 use Rattle.fx_losses.proofs.Votes.{alive_voter}
+use Rattle.fx_losses.proofs.Tests.{apart_zero}
 
 some_same : (x y : List Slot) → Some x ≡ Some y → x ≡ y
 some_same x y e = cc
@@ -36,9 +36,6 @@ same_not d l = omega (arith, l)
 
 below_not : (d : ℕ) → suc d < d → ⊥
 below_not d l = omega (arith, l)
-
-apart_zero : (e : ℕ) → (suc e == 0) ≡ false
-apart_zero e = grind (arith, nat_tests)
 
 next_not : (d : ℕ) → suc d ≡ d → ⊥
 next_not d l = omega (arith, l)

@@ -1,13 +1,12 @@
 -- Each deed of a node, where the body asks nothing, does what it owes to the ballots and to the journal.
-use Rattle.std.proofs.Common.{◌≡◌, ◌≢◌, ◌<◌, ℕ, zero, suc, Bool, true, false, ◌&&◌, ◌||◌, ◌==◌, List, [], ◌∷◌, map, Option, Some, inl, inr, arith, refl, sym, ap, subst, ◌∙◌}
-use Rattle.std.specs.Prelude.{if◌then◌else◌, not, nat_lt, is_some}
-use Rattle.std.specs.List.{filter, list_any}
+use Rattle.std.proofs.Common.{◌≡◌, ◌≢◌, ◌<◌, ℕ, zero, suc, Bool, true, false, ◌&&◌, ◌||◌, ◌==◌, List, [], ◌∷◌, Option, Some, inl, inr, arith, refl, sym, ap, subst, ◌∙◌}
+use Rattle.std.specs.Prelude.{if◌then◌else◌, nat_lt, is_some}
+use Rattle.std.specs.List.{list_any}
 use Rattle.std.proofs.lemmas.Bool.Decides.{nat_tests}
 use Rattle.std.proofs.lemmas.Bool.{cases_eq}
-use Rattle.fx_ballot.specs.declared.poll.Poll.{Poll}
 use Rattle.fx_ballot.specs.declared.poll.Poll.TheVariants as poll
-use Rattle.fx_ballot.specs.Laws.{vote_of, estimate_of}
-use Rattle.fx_ballot.specs.Names.{seat_of, has}
+use Rattle.fx_ballot.specs.Laws.{vote_of}
+use Rattle.fx_ballot.specs.Names.{has}
 use Rattle.fx_ballot.specs.Turn.{Phase, Outside}
 use Rattle.fx_ballot.specs.World.{put}
 use Rattle.fx_ballot.specs.World as ballot
@@ -32,12 +31,9 @@ use Rattle.fx_machine.specs.Numbers.{proc, epoch_no}
 use Rattle.fx_machine.specs.Reading.{is_join, next_ballot, turn_in, has_left}
 use Rattle.fx_machine.specs.Setup.{Setup}
 use Rattle.fx_machine.specs.Steps.{inits, may_help_out, passes_on, prints}
-use Rattle.fx_machine.specs.Texts as text
-use Rattle.fx_machine.specs.Texts.{Text}
 use Rattle.fx_deeds.specs.Deeds.{AsksFor, IsIn, OfEpoch, OfCall, Reason, First, HelpsOut, HasFailed, IsDone, Deed, Joins, Moves, Speaks, EndsAll, Repairs, Inits, PassesOn, PrintsOut, IsRefused, Attaches, Stores, Commits, Restores, EntersBarrier, EntersReduction, EntersShift, EntersAgreement, EntersDeletion, EntersClosing, EntersCreation, PassesBarrier, Reduces, Shifts, GathersNoMore, VotesNo, VotesYes, VotesFresh, HelpsAndGives, VotesFinding, ReturnsError, ReturnsBits, Closes, Creates, Deletes}
 use Rattle.fx_fleet.specs.Runs.{AsksNothing, job_setup}
-use Rattle.fx_fleet.specs.World.{World, up, sent_to}
-use Rattle.fx_calm.proofs.Lists.{Each, chosen}
+use Rattle.fx_fleet.specs.World.{World, up}
 use Rattle.fx_calm.proofs.Standing.{noted}
 use Rattle.fx_calm.proofs.Steps.{key_same, key_other}
 use Rattle.fx_legal.specs.Effects as effects
@@ -49,44 +45,31 @@ use Rattle.fx_legal.specs.Rules.{MayJoin, IsStirred, IsPrint}
 use Rattle.fx_legal.specs.Stands as stand
 use Rattle.fx_legal.specs.Stands.{Stand, is_killed}
 use Rattle.fx_losses.specs.Eras.{Era, first_era, era_of, era}
-use Rattle.fx_losses.proofs.Actions.{member, acted_writes, plain_steps, deems_same, behind_join, join_steps, join_deems, join_vote, join_votes}
+use Rattle.fx_losses.proofs.Actions.{member, behind_join, join_vote, join_votes}
 use Rattle.fx_losses.proofs.Turns.{after_turn, after_votes, shown_turn}
-use Rattle.fx_losses.proofs.Turning.{moved_steps, moved_deems, spoken_steps, spoken_deems, spoken_said}
 use Rattle.fx_losses.proofs.Closings.{kinds_now, lossy, may_repair, repair_links, may_ending, end_links}
-use Rattle.fx_losses.proofs.Decides.{next_steps, next_deems, end_steps, end_deems}
 use Rattle.fx_losses.proofs.Eras.{born}
+use Rattle.fx_losses.proofs.Asides.{Aside, writes_aside}
+use Rattle.fx_losses.proofs.Plays.{Plays, aside_plays, join_plays, polled, moves_plays, speaks_plays, ends_plays, repairs_plays}
 use Rattle.fx_losses.proofs.Linked.{Linked, Links, Stance, stance}
-use Rattle.fx_losses.proofs.Moves.{Steps, Deems, at_one, one_here, one_far, some_era}
+use Rattle.fx_losses.proofs.Moves.{at_one, one_here, one_far, some_era}
 use Rattle.fx_losses.specs.Losses.{RepairLosses}
 use Rattle.fx_losses.proofs.Voted.{Kinds, kinds_same, votes_one, loss_owed, no_losses, inits_no_repairs}
 use Rattle.fx_losses.proofs.Openings.{Wrote, standing, wrote_none, wrote_one, inits_wrote, in_body}
-use Rattle.fx_losses.proofs.Readings.{turn_shown, left_joined}
-use Rattle.fx_losses.proofs.Shows.{phase_of, is_begin, is_later, is_placed, role_after, Sane, Shows, IsTrue, Truthful, up_parts}
+use Rattle.fx_losses.proofs.Readings.{left_joined}
+use Rattle.fx_losses.proofs.Shows.{phase_of, is_begin, is_later, is_placed, role_after, Shows, Truthful, up_parts}
 use Rattle.fx_losses.proofs.Standing.{Like, liked, like_on, HasBegun, Waits, Settled, InBody, OfStage, AtStage}
+use Rattle.fx_losses.proofs.Tests.{both_true, less_is, not_first, or_itself, or_right, some_slot}
 
 -- ---- what a deed owes
 
 pub record Does (job : Job) (p : ℕ) (act : Act) (w : World) (z : ℕ → ballot.World) (fate : ℕ → Option (List Slot)) (l : Ledger) : Type 0 where
-  pub said : List Text
-  pub to : ℕ → Bool
-  pub after : ballot.World
-  pub fate_now : ℕ → Option (List Slot)
-  pub steps : Steps (job_setup job) p act said to w z after
-  pub deems : Deems (job_setup job) p act w z fate fate_now after
-  pub saying : Each (IsTrue (job_setup job) (at_one (w.node p).epoch after z) fate_now p) said
-  pub sending : (b : ℕ) → Each (IsTrue (job_setup job) (at_one (w.node p).epoch after z) fate_now p) (sent_to b act.sends)
+  pub plays : Plays (job_setup job) p act w z fate
   pub goes : GoesOn job l (noted act.items)
-  pub links : Links job p act w fate_now after l (written_all job l (noted act.items))
+  pub links : Links job p act w plays.fate_now plays.after l (written_all job l (noted act.items))
   pub kills : (written_all job l (noted act.items)).kills ≡ l.kills
-  pub kinds : Kinds (job_setup job) (at_one (w.node p).epoch after z) fate_now
+  pub kinds : Kinds (job_setup job) (at_one (w.node p).epoch plays.after z) plays.fate_now
   pub losses : RepairLosses job l (noted act.items)
-
-sent_all : (Is : Text → Type 0) (t : Text) → Is t → (qs : List ℕ) (b : ℕ) → Each Is (sent_to b (map (λ q. (q, t)) qs))
-sent_all Is t is [] b = tt
-sent_all Is t is (q ∷ qs) b = chosen (Each Is) (q == b) (t ∷ sent_to b (map (λ q. (q, t)) qs)) (sent_to b (map (λ q. (q, t)) qs)) (λ e. (is, sent_all Is t is qs b)) (λ e. sent_all Is t is qs b)
-
-others_sent : (Is : Text → Type 0) (t : Text) → Is t → (me b : ℕ) (all : List ℕ) → Each Is (sent_to b (to_others me all t))
-others_sent Is t is me b all = sent_all Is t is (filter (λ q. not (q == me)) all) b
 
 any_found : (test : ℕ → Bool) (qs : List ℕ) → list_any test qs ≡ true → (q : ℕ) × (test q ≡ true)
 any_found test [] e = absurd (let bad : false ≡ true = e in cc)
@@ -96,29 +79,14 @@ any_found test (q ∷ qs) e = here (any_found test qs) (test q) refl e
     here rest true is e = (q, is)
     here rest false is e = rest e
 
-not_first : (d : ℕ) → 0 < d → not (suc d == 1) ≡ true
-not_first d e = grind (arith, nat_tests)
-
-above : (d : ℕ) → 0 < d → nat_lt 0 d ≡ true
-above d e = grind (arith, nat_tests)
-
-both_true : (a b : Bool) → a ≡ true → b ≡ true → (a && b) ≡ true
-both_true a b x y = grind (arith, nat_tests)
-
 -- where one of the members passes it has a place
 member_found : (test : ℕ → Bool) (seats : List Seat) → list_any test (nodes.procs_of seats) ≡ true → (q : ℕ) × (has_place seats q ≡ true) × (test q ≡ true)
 member_found test [] e = absurd (let bad : false ≡ true = e in cc)
 member_found test (s ∷ seats) e = here (member_found test seats) (test s.1.0) refl e
   where
-    this : (a : ℕ) (b : Bool) → ((a == a) || b) ≡ true
-    this a b = grind (arith, nat_tests)
-
-    later : (a b : Bool) → b ≡ true → (a || b) ≡ true
-    later a b e = grind (arith, nat_tests)
-
     here : (list_any test (nodes.procs_of seats) ≡ true → (q : ℕ) × (has_place seats q ≡ true) × (test q ≡ true)) → (b : Bool) → test s.1.0 ≡ b → (b || list_any test (nodes.procs_of seats)) ≡ true → (q : ℕ) × (has_place (s ∷ seats) q ≡ true) × (test q ≡ true)
-    here rest true is e = (s.1.0, this s.1.0 (has_place seats s.1.0), is)
-    here rest false is e = let r = rest e in (r.0, later (s.1.0 == r.0) (has_place seats r.0) r.1, r.2)
+    here rest true is e = (s.1.0, or_itself s.1.0 (has_place seats s.1.0), is)
+    here rest false is e = let r = rest e in (r.0, or_right (s.1.0 == r.0) (has_place seats r.0) r.1, r.2)
 
 pair_same : (a b : ℕ) → ((a == a) && (b == b)) ≡ true
 pair_same a b = grind (arith, nat_tests)
@@ -257,28 +225,15 @@ module _ (job : Job) (asks : AsksNothing job) (w : World) (z : ℕ → ballot.Wo
         here_now : (e : ℕ) → e ≡ d → at_one d after z e ≡ after
         here_now e same = ap (at_one d after z) same ∙ one_here d after z
 
-        some_slot : (x y : Slot) → Some x ≡ Some y → x ≡ y
-        some_slot x y e = cc
-
         own_final : (e q : ℕ) (v : Slot) (y : Era) → e ≡ d → q ≡ p → 0 < e → era (first_era s) fate e ≡ Some y → vote_of after q ≡ Some v → has_place y.comm q ≡ true → v ≡ slot.Final
         own_final e q v y same it_is pos is_now vote place =
             let its : y ≡ era_of n = some_era y (era_of n) (sym is_now ∙ ap (era (first_era s) fate) same ∙ h.here p k.1) in
             let cast : kind ≡ v = some_slot kind v (sym (join_vote s w z fate p here h kind out) ∙ ap (vote_of after) (sym it_is) ∙ vote) in
             sym cast ∙ final (subst (λ (o : ℕ). 0 < o) same pos) (ap (λ (o : ℕ). has_place n.comm o) (sym it_is) ∙ ap (λ (o : Era). has_place o.comm q) (sym its) ∙ place)
 
-    said_true : IsTrue s (at_one d after z) fate p (text.Join (suc d) kind)
-    said_true = ap (λ (o : ballot.World). vote_of o p) (one_here d after z) ∙ join_vote s w z fate p here h kind out
-
     join_does : Does job p (joined kind (w.node p)) w z fate l
     join_does = record {
-      said = text.Join (suc d) kind ∷ [];
-      to = member n.present;
-      after = after;
-      fate_now = fate;
-      steps = join_steps s w z fate p here h kind out;
-      deems = join_deems s w z fate p here h kind out is;
-      saying = (said_true, tt);
-      sending = λ b. others_sent (IsTrue s (at_one d after z) fate p) (text.Join (suc d) kind) said_true n.me b n.present;
+      plays = join_plays s w z fate p here h tr kind out is;
       goes = ((few, may), tt);
       links = join_links;
       kills = refl;
@@ -337,13 +292,10 @@ module _ (job : Job) (asks : AsksNothing job) (w : World) (z : ℕ → ballot.Wo
       join_does slot.Final (ap phase_of at) (not_first d ((h.sane p k.1).later (ap is_later at)))
       (subst (MayJoin l (suc d) slot.Final) (sym stands) (refl, ap suc (sym b.within)))
       (ap (state_left (blank (facts_of job))) stands ∙ sym (ap (λ (o : Walk). state_at (stop_of o [])) walk))
-      (λ e. absurd (let bad : true ≡ false = sym (both_true (nat_lt 0 d) (has_place n.comm n.me) (above d ((h.sane p k.1).later (ap is_later at))) (ap (has_place n.comm) own ∙ (h.sane p k.1).placed (ap is_placed at))) ∙ e in cc))
+      (λ e. absurd (let bad : true ≡ false = sym (both_true (nat_lt 0 d) (has_place n.comm n.me) (less_is 0 d ((h.sane p k.1).later (ap is_later at))) (ap (has_place n.comm) own ∙ (h.sane p k.1).placed (ap is_placed at))) ∙ e in cc))
       (λ pos place. refl)
 
   -- ---- turns in the ballot
-
-  polled : (own_phase : Phase) (x : Poll) → (turn_in (next_ballot n) n own_phase).poll ≡ x → shown_turn n p own_phase ≡ record { phase = (turn_in (next_ballot n) n own_phase).phase; poll = x }
-  polled own_phase x e = sym (turn_shown s w z fate p here h tr own_phase) ∙ (λ i. record { phase = (turn_in (next_ballot n) n own_phase).phase; poll = e i })
 
   waiting : (old : Phase) → n.stage ≡ Joining old → Waits job (l.stands p) n
   waiting old at = subst (OfStage job (l.stands p) n) at (t.stands p k.1)
@@ -351,17 +303,10 @@ module _ (job : Job) (asks : AsksNothing job) (w : World) (z : ℕ → ballot.Wo
   moves_does : (old : Phase) → n.stage ≡ Joining old → (turn_in (next_ballot n) n old).poll ≡ poll.Moved → Does job p (moves n Joining (turn_in (next_ballot n) n old).phase) w z fate l
   moves_does old at e =
       let phase : Phase = (turn_in (next_ballot n) n old).phase in
-      let is = polled old poll.Moved e in
+      let is = polled s w z fate p here h tr old poll.Moved e in
       let b = waiting old at in
       record {
-        said = [];
-        to = λ b. false;
-        after = after_turn w z p (record { phase = phase; poll = poll.Moved });
-        fate_now = fate;
-        steps = moved_steps s w z fate p here h old at phase is;
-        deems = moved_deems s w z fate p here h old at phase is;
-        saying = tt;
-        sending = λ b. tt;
+        plays = moves_plays s w z fate p here h tr old at e;
         goes = tt;
         links = silent_links (moves n Joining phase) _ (after_votes s w z fate p here h old at phase poll.Moved is) (record { stand = b.stand; empty = b.empty });
         kills = refl;
@@ -372,14 +317,7 @@ module _ (job : Job) (asks : AsksNothing job) (w : World) (z : ℕ → ballot.Wo
   speaks_does : (old : Phase) (slots : List Slot) → n.stage ≡ Joining old → (turn_in (next_ballot n) n old).poll ≡ poll.SendEstimate slots
       → Does job p (speaks (next_ballot n) n Joining (turn_in (next_ballot n) n old).phase slots) w z fate l
   speaks_does old slots at e = record {
-    said = text.Jest (suc d) (seat_of n.present n.me) slots ∷ [];
-    to = member n.present;
-    after = (after_turn w z p (record { phase = (turn_in (next_ballot n) n old).phase; poll = poll.SendEstimate slots }));
-    fate_now = fate;
-    steps = spoken_steps s w z fate p here h old at phase slots is;
-    deems = spoken_deems s w z fate p here h old at phase slots is;
-    saying = (said_true, tt);
-    sending = λ b. others_sent (IsTrue s (at_one d (after_turn w z p (record { phase = (turn_in (next_ballot n) n old).phase; poll = poll.SendEstimate slots })) z) fate p) (text.Jest (suc d) (seat_of n.present n.me) slots) said_true n.me b n.present;
+    plays = speaks_plays s w z fate p here h tr old at slots e;
     goes = tt;
     links = silent_links (speaks (next_ballot n) n Joining phase slots) (after_turn w z p (record { phase = (turn_in (next_ballot n) n old).phase; poll = poll.SendEstimate slots })) (after_votes s w z fate p here h old at phase (poll.SendEstimate slots) is) (record { stand = b.stand; empty = b.empty });
     kills = refl;
@@ -391,33 +329,17 @@ module _ (job : Job) (asks : AsksNothing job) (w : World) (z : ℕ → ballot.Wo
       phase = (turn_in (next_ballot n) n old).phase
 
       is : shown_turn n p old ≡ record { phase = (turn_in (next_ballot n) n old).phase; poll = poll.SendEstimate slots }
-      is = polled old (poll.SendEstimate slots) e
+      is = polled s w z fate p here h tr old (poll.SendEstimate slots) e
 
       b : Waits job (l.stands p) n
       b = waiting old at
 
-      said_true : IsTrue s (at_one d (after_turn w z p (record { phase = (turn_in (next_ballot n) n old).phase; poll = poll.SendEstimate slots })) z) fate p (text.Jest (suc d) (seat_of n.present n.me) slots)
-      said_true = record {
-        era_then = era_of n;
-        at = h.here p k.1;
-        seated = (h.sane p k.1).mine k.0;
-        round = ap (seat_of n.present) own;
-        said = ap (λ (o : ballot.World). estimate_of o p) (one_here d (after_turn w z p (record { phase = (turn_in (next_ballot n) n old).phase; poll = poll.SendEstimate slots })) z) ∙ spoken_said s w z fate p here h old at (turn_in (next_ballot n) n old).phase slots is;
-      }
-
   ends_does : (old : Phase) (slots : List Slot) → n.stage ≡ Joining old → (turn_in (next_ballot n) n old).poll ≡ poll.Decided slots → is_end n slots ≡ true → Does job p (ends n) w z fate l
   ends_does old slots at e last =
       let phase : Phase = (turn_in (next_ballot n) n old).phase in
-      let is = polled old (poll.Decided slots) e in
+      let is = polled s w z fate p here h tr old (poll.Decided slots) e in
       record {
-        said = [];
-        to = λ b. false;
-        after = after_turn w z p (record { phase = phase; poll = poll.Decided slots });
-        fate_now = put fate d (Some slots);
-        steps = end_steps s w z fate p here h old at phase slots is;
-        deems = end_deems s w z fate p here h old at phase slots is last;
-        saying = tt;
-        sending = λ b. tt;
+        plays = ends_plays s w z fate p here h tr old at slots e last;
         goes = ((few, may_ending job w z fate l p here h t old at phase slots is last), tt);
         links = end_links job w z fate l p here h t old at phase slots is last;
         kills = refl;
@@ -429,16 +351,9 @@ module _ (job : Job) (asks : AsksNothing job) (w : World) (z : ℕ → ballot.Wo
       → Does job p (repairs s (arrived (voters (is_join (suc d)) n.present slots) n)) w z fate l
   repairs_does old slots at e goes_on =
       let phase : Phase = (turn_in (next_ballot n) n old).phase in
-      let is = polled old (poll.Decided slots) e in
+      let is = polled s w z fate p here h tr old (poll.Decided slots) e in
       record {
-        said = [];
-        to = λ b. false;
-        after = after_turn w z p (record { phase = phase; poll = poll.Decided slots });
-        fate_now = put fate d (Some slots);
-        steps = next_steps s w z fate p here h old at phase slots is;
-        deems = next_deems s w z fate p here h old at phase slots is goes_on;
-        saying = tt;
-        sending = λ b. tt;
+        plays = repairs_plays s w z fate p here h tr old at slots e goes_on;
         goes = ((few, may_repair job w z fate l p here h t old at phase slots is goes_on), tt);
         links = repair_links job w z fate l p here h t old at phase slots is goes_on;
         kills = refl;
@@ -452,17 +367,10 @@ module _ (job : Job) (asks : AsksNothing job) (w : World) (z : ℕ → ballot.Wo
   at_own items x r = subst (λ (o : ℕ). Wrote job l o items x) own r
 
   -- a step outside the ballots that only writes
-  writes_does : (items : List Item) (m : Node) (x : Stand) → m.texts ≡ n.texts → m.lost ≡ n.lost → m.epoch ≡ n.epoch → era_of m ≡ era_of n → m.role ≡ n.role → has_ended m ≡ false → phase_of n.stage ≡ phase_of m.stage → Sane s p m
-      → Wrote job l p (noted items) x → RepairLosses job l (noted items) → AtStage job x m → Does job p (nodes.writing items m) w z fate l
-  writes_does items m x texts lost epoch same role goes_on phase sane r losses mine = record {
-    said = [];
-    to = λ b. false;
-    after = z d;
-    fate_now = fate;
-    steps = plain_steps s p (nodes.writing items m) [] (λ b. false) w z fate here h (acted_writes p n m items texts lost) (λ e. refl) epoch goes_on phase sane;
-    deems = deems_same s p (nodes.writing items m) w z fate (z d) k.1 (h.owes d) epoch same role goes_on h;
-    saying = tt;
-    sending = λ b. tt;
+  writes_does : (items : List Item) (m : Node) (x : Stand) → Aside n (nodes.writing items m) → phase_of n.stage ≡ Outside → 0 < d → has_place n.comm p ≡ true → Wrote job l p (noted items) x → RepairLosses job l (noted items) → AtStage job x m
+      → Does job p (nodes.writing items m) w z fate l
+  writes_does items m x aside out later place r losses mine = record {
+    plays = aside_plays s w z fate p here h tr (nodes.writing items m) aside out later place;
     goes = r.goes;
     links = wrote_links (nodes.writing items m) (noted items) x r mine;
     kills = r.kills;
@@ -490,26 +398,19 @@ module _ (job : Job) (asks : AsksNothing job) (w : World) (z : ℕ → ballot.Wo
       let b : Settled job (l.stands n.me) n = at_stage Arrived at in
       let later : 0 < d = (h.sane p k.1).later (ap is_later at) in
       let sane = h.sane p k.1 in
-      writes_does (inits s n).items (inits s n).node (in_body job n l few (ap comm_of st.chapter.at ∙ sym st.chapter.like.comm) (named later) place (b.seated place) st.current) refl refl refl refl refl refl (ap phase_of at)
-      (record {
-        me = sane.me;
-        fresh = λ e. absurd (let bad : false ≡ true = e in cc);
-        later = λ e. later;
-        placed = λ e. ap (has_place n.comm) (sym own) ∙ place;
-        inside = λ o e. absurd (let bad : true ≡ false = ap is_later e in cc);
-        mine = sane.mine;
-      })
+      writes_does (inits s n).items (inits s n).node (in_body job n l few (ap comm_of st.chapter.at ∙ sym st.chapter.like.comm) (named later) place (b.seated place) st.current)
+      (writes_aside n _ _ refl refl refl refl refl refl refl) (ap phase_of at) later (ap (has_place n.comm) (sym own) ∙ place)
       (at_own _ _ (inits_wrote job n l few (ap comm_of st.chapter.at ∙ sym st.chapter.like.comm) (named later) place (b.seated place) st.current))
       (no_losses job l (inits s n).items (inits_no_repairs s n))
       (record { stay = _; within = refl; stand = refl; only = asks (view_at_init n.role (my_place n) (size n)) (body_start (facts_of job) n.role (my_place n) (size n) (state_of n)) })
 
-  same_sane : (rest : Walk) → Sane s p (record n { walk = rest })
-  same_sane rest = let sane = h.sane p k.1 in record { me = sane.me; fresh = sane.fresh; later = sane.later; placed = sane.placed; inside = sane.inside; mine = sane.mine }
+  walks_on : n.stage ≡ Walking → (0 < d) × (has_place n.comm p ≡ true)
+  walks_on at = ((h.sane p k.1).later (ap is_later at), (h.sane p k.1).placed (ap is_placed at))
 
   passes_does : (rest : Walk) → n.stage ≡ Walking → n.walk ≡ Passes rest → Does job p (passes_on rest n) w z fate l
   passes_does rest at e =
       let b : InBody (l.stands p) n = subst (OfStage job (l.stands p) n) at (t.stands p k.1) in
-      writes_does [] (record n { walk = rest }) (l.stands p) refl refl refl refl refl k.2 refl (same_sane rest) (wrote_none job l p (l.stands p) refl) tt
+      writes_does [] (record n { walk = rest }) (l.stands p) (writes_aside n _ _ refl refl refl refl refl refl (ap is_placed at)) (ap phase_of at) (walks_on at).0 (walks_on at).1 (wrote_none job l p (l.stands p) refl) tt
       (subst (OfStage job (l.stands p) (record n { walk = rest })) (sym at)
       (record { stay = b.stay; within = b.within; stand = b.stand ∙ ap (λ (o : Walk). stand.Walking b.stay (stand.shown o)) e; only = subst OnlyPrints e b.only }))
 
@@ -519,7 +420,7 @@ module _ (job : Job) (asks : AsksNothing job) (w : World) (z : ℕ → ballot.Wo
       let b : InBody (l.stands n.me) n = at_stage Walking at in
       let stands : l.stands n.me ≡ stand.Walking b.stay (Prints what rest) = b.stand ∙ ap (λ (o : Walk). stand.Walking b.stay (stand.shown o)) e in
       let x : Stand = stand.Walking b.stay (stand.shown rest) in
-      writes_does (prints what rest n).items (record n { walk = rest }) (stand.Walking b.stay (stand.shown rest)) refl refl refl refl refl k.2 refl (same_sane rest)
+      writes_does (prints what rest n).items (record n { walk = rest }) (stand.Walking b.stay (stand.shown rest)) (writes_aside n _ _ refl refl refl refl refl refl (ap is_placed at)) (ap phase_of at) (walks_on at).0 (walks_on at).1
       (at_own _ _ (wrote_one job n few (state_of n) l _ (stand.Walking b.stay (stand.shown rest)) (stand.Walking b.stay (stand.shown rest)) [] (ap (λ (o : Stand). standing n.me o l) (ap effects.printed stands))
       ((few, (subst (IsPrint d what) (sym stands) (b.within, refl), st.current)), tt)
       (wrote_none job _ n.me _ (key_same n.me (stand.Walking b.stay (stand.shown rest)) l.stands))))

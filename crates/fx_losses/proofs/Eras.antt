@@ -12,18 +12,11 @@ use Rattle.fx_machine.specs.Ballots.{voters}
 use Rattle.fx_machine.specs.Reading.{is_join}
 use Rattle.fx_machine.specs.Setup.{Setup}
 use Rattle.fx_losses.specs.Eras.{Era, first_era, is_last, next_of, next_era, era}
+use Rattle.fx_losses.proofs.Tests.{or_right}
+use Rattle.fx_calm.proofs.Lists.{equal, unequal}
 
 has_first : (q p : ℕ) (rest : Bool) → ((q == p) || rest) ≡ true → q ≢ p → rest ≡ true
 has_first q p rest e ne = grind (arith, nat_tests)
-
-or_later : (a b : Bool) → b ≡ true → (a || b) ≡ true
-or_later a b e = grind (arith, nat_tests)
-
-equal : (a b : ℕ) → (a == b) ≡ true → a ≡ b
-equal a b e = grind (arith, nat_tests)
-
-unequal : (a b : ℕ) → (a == b) ≡ false → a ≢ b
-unequal a b e = grind (arith, nat_tests)
 
 -- ---- voters
 
@@ -39,7 +32,7 @@ module _ (is_vote : Slot → Bool) where
     where
       both : (has (voters is_vote qs ss) p ≡ true → has qs p ≡ true) → (t : Bool) → has (cond t (q ∷ voters is_vote qs ss) (voters is_vote qs ss)) p ≡ true → ((q == p) || has qs p) ≡ true
       both f true e = or_front true (q == p) (has (voters is_vote qs ss) p) (has qs p) f e
-      both f false e = or_later (q == p) (has qs p) (f e)
+      both f false e = or_right (q == p) (has qs p) (f e)
 
   not_among : (who : List ℕ) (ss : List Slot) (p : ℕ) → has who p ≡ false → has (voters is_vote who ss) p ≡ false
   not_among who ss p e = both (has (voters is_vote who ss) p) refl
@@ -70,7 +63,7 @@ module _ (is_vote : Slot → Bool) where
           → slice_get (x ∷ xs) (cond t 0 (suc (seat_of qs p))) ≡ Some s → has (cond u (q ∷ voters is_vote qs xs) (voters is_vote qs xs)) p ≡ true
       both f true a true b h = ap (λ z. z || has (voters is_vote qs xs) p) a
       both f true a false b h = absurd (let same : Some x ≡ Some s = h in let eq : x ≡ s = cc in let bad : false ≡ true = sym b ∙ ap is_vote eq ∙ v in cc)
-      both f false a true b h = or_later (q == p) (has (voters is_vote qs xs) p) (f a h)
+      both f false a true b h = or_right (q == p) (has (voters is_vote qs xs) p) (f a h)
       both f false a false b h = f a h
 
   pub voter_slot : (who : List ℕ) (ss : List Slot) (p : ℕ) → Distinct who → has (voters is_vote who ss) p ≡ true

@@ -2,7 +2,6 @@
 use Rattle.std.proofs.Common.{◌≡◌, ℕ, ◌<◌, ◌==◌, zero, suc, Bool, true, false, ◌||◌, ◌&&◌, List, [], ◌∷◌, length, get_or, Some, inl, inr, arith, refl, subst, sym, ◌∙◌, ap}
 use Rattle.std.specs.Prelude.{if◌then◌else◌, slice_get}
 use Rattle.std.specs.List.{list_all}
-use Rattle.std.proofs.lemmas.Bool.Decides.{nat_tests}
 use Rattle.fx_ballot.specs.Laws.{vote_of, IsTrueSlot, TrueSlots}
 use Rattle.fx_ballot.specs.Names.{seat_at, seat_of, has}
 use Rattle.fx_ballot.specs.World as ballot
@@ -12,6 +11,8 @@ use Rattle.fx_link.specs.declared.slot.Slot.{Slot}
 use Rattle.fx_link.specs.declared.slot.Slot.TheVariants as slot
 use Rattle.fx_machine.specs.Ballots.{is_final}
 use Rattle.fx_machine.specs.Nodes.{procs_of}
+use Rattle.fx_losses.proofs.Tests.{first_of, or_itself, or_right, second_of}
+use Rattle.fx_calm.proofs.Lists.{equal}
 
 final_is : (s : Slot) → is_final s ≡ true → s ≡ slot.Final
 final_is slot.Start e = absurd (let bad : false ≡ true = e in cc)
@@ -46,18 +47,9 @@ seated_passes : (test : ℕ → Bool) (seats : List Seat) (q : ℕ) → list_all
 seated_passes test [] q all e = absurd (let bad : false ≡ true = e in cc)
 seated_passes test (s ∷ seats) q all e = of (seated_passes test seats q) (s.1.0 == q) refl e
   where
-    equal : (a b : ℕ) → (a == b) ≡ true → a ≡ b
-    equal a b e = grind (arith, nat_tests)
-
-    first : (a b : Bool) → (a && b) ≡ true → a ≡ true
-    first a b e = grind (arith, nat_tests)
-
-    second : (a b : Bool) → (a && b) ≡ true → b ≡ true
-    second a b e = grind (arith, nat_tests)
-
     of : (list_all test (procs_of seats) ≡ true → has_place seats q ≡ true → test q ≡ true) → (b : Bool) → (s.1.0 == q) ≡ b → (b || has_place seats q) ≡ true → test q ≡ true
-    of later true same h = ap test (sym (equal s.1.0 q same)) ∙ first (test s.1.0) (list_all test (procs_of seats)) all
-    of later false same h = later (second (test s.1.0) (list_all test (procs_of seats)) all) h
+    of later true same h = ap test (sym (equal s.1.0 q same)) ∙ first_of (test s.1.0) (list_all test (procs_of seats)) all
+    of later false same h = later (second_of (test s.1.0) (list_all test (procs_of seats)) all) h
 
 -- where all that have a place have the slot `final`, each of them has voted so
 pub all_final_voted : (who : List ℕ) (seats : List Seat) (slots : List Slot) (z : ballot.World) (q : ℕ) → TrueSlots (length who) (seat_at who) z slots
@@ -77,12 +69,6 @@ pub one_not_final : (test : ℕ → Bool) (seats : List Seat) → list_all test 
 one_not_final test [] e = absurd (let bad : true ≡ false = e in cc)
 one_not_final test (s ∷ seats) e = of (one_not_final test seats) (test s.1.0) refl e
   where
-    this : (a : ℕ) (b : Bool) → ((a == a) || b) ≡ true
-    this a b = grind (arith, nat_tests)
-
-    later : (a b : Bool) → b ≡ true → (a || b) ≡ true
-    later a b e = grind (arith, nat_tests)
-
     of : (list_all test (procs_of seats) ≡ false → (q : ℕ) × (has_place seats q ≡ true) × (test q ≡ false)) → (b : Bool) → test s.1.0 ≡ b → (b && list_all test (procs_of seats)) ≡ false → (q : ℕ) × (has_place (s ∷ seats) q ≡ true) × (test q ≡ false)
-    of rest true is h = let r = rest h in (r.0, later (s.1.0 == r.0) (has_place seats r.0) r.1, r.2)
-    of rest false is h = (s.1.0, this s.1.0 (has_place seats s.1.0), is)
+    of rest true is h = let r = rest h in (r.0, or_right (s.1.0 == r.0) (has_place seats r.0) r.1, r.2)
+    of rest false is h = (s.1.0, or_itself s.1.0 (has_place seats s.1.0), is)

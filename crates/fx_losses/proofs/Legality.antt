@@ -1,13 +1,13 @@
 -- The journal of a run with any events is legal, and shows all ends.
 use Rattle.std.proofs.lemmas.Bool.Decides.{nat_tests}
-use Rattle.std.proofs.Common.{arith, ◌≡◌, ◌<◌, ℕ, zero, suc, Bool, true, false, ◌==◌, List, [], ◌∷◌, Option, Some, None, refl, sym, ap, subst, ◌∙◌}
+use Rattle.std.proofs.Common.{arith, ◌≡◌, ◌<◌, ℕ, zero, suc, Bool, true, false, List, [], ◌∷◌, Option, Some, None, refl, sym, ap, subst, ◌∙◌}
 use Rattle.std.specs.Prelude.{nat_lt, not, if◌then◌else◌}
 use Rattle.fx_ballot.specs.World.{start}
 use Rattle.fx_check.specs.Work.{bound_of}
 use Rattle.fx_link.specs.declared.slot.Slot.{Slot}
 use Rattle.fx_script.specs.declared.job.Job.{Job}
 use Rattle.fx_store.proofs.Mirrors.{each_at, each_from}
-use Rattle.fx_fleet.specs.Rounds.{all_over, whole}
+use Rattle.fx_fleet.specs.Rounds.{journal, all_over, whole}
 use Rattle.fx_fleet.specs.Runs.{AsksNothing, job_setup, moments_of, rest_bound_of, journal_of}
 use Rattle.fx_fleet.specs.World.{World, first_world, up}
 use Rattle.fx_calm.proofs.Lists.{Each}
@@ -28,6 +28,7 @@ use Rattle.fx_losses.proofs.Legally.{Legally, gone_where_not_up}
 use Rattle.fx_losses.proofs.Legally.{acts_legally}
 use Rattle.fx_losses.proofs.Hearing.{hears_legally, tells_legally}
 use Rattle.fx_losses.proofs.Losing.{loses_legally}
+use Rattle.fx_losses.proofs.Tests.{apart_zero}
 
 -- a kill of who isn't up any more is passed over
 passes_legally : (job : Job) (ps : List ℕ) (p : ℕ) (w : World) → p < procs_of job → up (job_setup job) w p ≡ false → Legally job (p ∷ ps) w → Legally job ps w
@@ -69,9 +70,6 @@ begins job = record {
     below : (a b : ℕ) → nat_lt a b ≡ true → a < b
     below a b e = grind (arith, nat_tests)
 
-    apart_zero : (e : ℕ) → (suc e == 0) ≡ false
-    apart_zero e = grind (arith, nat_tests)
-
     eras : (d : ℕ) → Like (first_ledger job) d (era (first_era (job_setup job)) none_yet d) ((first_ledger job).chapters d)
     eras zero = record {
       comm = refl;
@@ -100,8 +98,11 @@ KillsProcesses job = Each (λ p. p < procs_of job) (kills_of (moments_of job))
 pub legally : (job : Job) → AsksNothing job → KillsProcesses job → (fuel bound : ℕ) → Legally job [] (whole (job_setup job) fuel bound (moments_of job))
 legally job asks few fuel bound = always_along (job_setup job) (Legally job) (kept job asks) (moments_of job) few (begins job) fuel bound
 
+pub is_legal_within : (job : Job) → AsksNothing job → KillsProcesses job → (fuel bound : ℕ) → IsLegalWhole job (journal (job_setup job) fuel bound (moments_of job))
+is_legal_within job asks few fuel bound = let is = legally job asks few fuel bound in (is.goes, is.due)
+
 pub is_legal : (job : Job) → AsksNothing job → KillsProcesses job → IsLegalWhole job (journal_of job)
-is_legal job asks few = let is = legally job asks few (rest_bound_of job) (bound_of job) in (is.goes, is.due)
+is_legal job asks few = is_legal_within job asks few (rest_bound_of job) (bound_of job)
 
 pub has_losses : (job : Job) → AsksNothing job → KillsProcesses job → EachEpochHasItsLoss job (journal_of job)
 has_losses job asks few = (legally job asks few (rest_bound_of job) (bound_of job)).losses

@@ -1,7 +1,6 @@
 -- Worlds whose journal is legal; a step keeps that.
-use Rattle.std.proofs.lemmas.Bool.Decides.{nat_tests}
 use Rattle.std.proofs.lemmas.List.Elements.{filter-append}
-use Rattle.std.proofs.Common.{arith, ◌≡◌, ◌<◌, ℕ, Bool, true, false, ◌&&◌, List, [], ◌∷◌, ◌++◌, map, Option, Some, refl, sym, ap, subst, ◌∙◌}
+use Rattle.std.proofs.Common.{◌≡◌, ◌<◌, ℕ, Bool, true, false, ◌&&◌, List, [], ◌∷◌, ◌++◌, map, Option, Some, refl, sym, ap, subst, ◌∙◌}
 use Rattle.std.specs.Prelude.{nat_lt, not}
 use Rattle.fx_ballot.specs.World.{start, tells, kills, put}
 use Rattle.fx_ballot.specs.World as ballot
@@ -34,6 +33,7 @@ use Rattle.fx_losses.proofs.Shows.{Shows, Truthful, up_parts}
 use Rattle.fx_losses.proofs.Standing.{gone_where_over, killed_is}
 use Rattle.fx_losses.proofs.Texts.{append_none}
 use Rattle.fx_losses.proofs.Truths.{truthful_step}
+use Rattle.fx_losses.proofs.Tests.{less_is}
 
 -- a world whose journal is legal, where these kills are still to come
 pub record Legally (job : Job) (ps : List ℕ) (w : World) : Type 0 where
@@ -62,9 +62,6 @@ noted_more p before items sends =
 pub gone_where_not_up : (job : Job) (l : Ledger) (w : World) (z : ℕ → ballot.World) (fate : ℕ → Option (List Slot)) → Linked job w z fate l → (p : ℕ) → p < procs_of job → is_gone (l.stands p) ≡ not (up (job_setup job) w p)
 gone_where_not_up job l w z fate t p few = of (w.killed p) refl
   where
-    less_true : (a b : ℕ) → a < b → nat_lt a b ≡ true
-    less_true a b e = grind (arith, nat_tests, e)
-
     dead : (a c : Bool) → true ≡ not (a && (not true && c))
     dead true c = refl
     dead false c = refl
@@ -79,7 +76,7 @@ gone_where_not_up job l w z fate t p few = of (w.killed p) refl
         ap is_gone (killed_is (l.stands p) (t.killed p ∙ e)) ∙ dead (nat_lt p (procs_of job)) (not (has_ended (w.node p)))
         ∙ ap (λ (b : Bool). not (nat_lt p (procs_of job) && (not b && not (has_ended (w.node p))))) (sym e)
     of false e =
-        gone_where_over job (l.stands p) (w.node p) (t.stands p e) ∙ alive (nat_lt p (procs_of job)) (has_ended (w.node p)) (less_true p (procs_of job) few)
+        gone_where_over job (l.stands p) (w.node p) (t.stands p e) ∙ alive (nat_lt p (procs_of job)) (has_ended (w.node p)) (less_is p (procs_of job) few)
         ∙ ap (λ (b : Bool). not (nat_lt p (procs_of job) && (not b && not (has_ended (w.node p))))) (sym e)
 
 -- ---- a step
@@ -112,11 +109,11 @@ module _ (job : Job) (asks : AsksNothing job) (ps : List ℕ) (p : ℕ) (w : Wor
   pub acts_legally : Legally job ps (does (job_setup job) p act w)
   acts_legally = record {
     worlds = _;
-    fate = o.fate_now;
-    shows = shows_step s p act o.said o.to w is.worlds is.fate o.fate_now o.after on o.steps o.deems is.shows;
-    truthful = truthful_step s p act o.said o.to w is.worlds is.fate o.fate_now o.after on o.steps is.shows (λ d x i. era_grows (first_era s) is.fate o.fate_now o.deems.grows d x i) o.saying o.sending is.truthful;
+    fate = o.plays.fate_now;
+    shows = shows_step s p act o.plays.said o.plays.to w is.worlds is.fate o.plays.fate_now o.plays.after on o.plays.steps o.plays.deems is.shows;
+    truthful = truthful_step s p act o.plays.said o.plays.to w is.worlds is.fate o.plays.fate_now o.plays.after on o.plays.steps is.shows (λ d x i. era_grows (first_era s) is.fate o.plays.fate_now o.plays.deems.grows d x i) o.plays.saying o.plays.sending is.truthful;
     goes = subst (GoesOn job (first_ledger job)) (sym more) (goes_on_more job (first_ledger job) (noted w.items) (noted act.items) is.goes o.goes);
-    linked = subst (Linked job (does s p act w) _ o.fate_now) (sym ledger_now) (linked_step job p act w is.worlds is.fate o.fate_now o.after l m (up_parts s w p on).1 o.links is.linked);
+    linked = subst (Linked job (does s p act w) _ o.plays.fate_now) (sym ledger_now) (linked_step job p act w is.worlds is.fate o.plays.fate_now o.plays.after l m (up_parts s w p on).1 o.links is.linked);
     kinds = o.kinds;
     losses = subst (RepairLosses job (first_ledger job)) (sym more) (losses_more job (first_ledger job) (noted w.items) (noted act.items) is.losses o.losses);
     due = subst (λ (x : Ledger). due_kills x.stands x.kills ≡ due_kills x.stands ps) (sym ledger_now)

@@ -1,3 +1,4 @@
+pub mod Tests
 pub mod Texts
 pub mod Eras
 pub mod Shows
@@ -21,14 +22,14 @@ pub mod Closings
 pub mod Openings
 pub mod Schedule
 pub mod Moments
+pub mod Asides
+pub mod Plays
+pub mod Worlds
 pub mod Deeds
 pub mod Legally
 pub mod Hearing
 pub mod Losing
 pub mod Legality
 pub mod Accepted
-pub mod Gone
-pub mod Sparing
-pub mod Asides
-pub mod AsideSteps
-pub mod Showing
+pub mod Sizes
+pub mod Row

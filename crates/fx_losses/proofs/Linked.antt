@@ -1,5 +1,5 @@
 -- The ledger tells what the world shows.
-use Rattle.std.proofs.Common.{◌≡◌, ℕ, ◌<◌, ◌≢◌, suc, Bool, true, false, List, length, Option, Some, None, inl, inr, refl, subst, sym, ◌∙◌, ap}
+use Rattle.std.proofs.Common.{◌≡◌, ℕ, ◌<◌, ◌≢◌, suc, true, false, List, length, Option, Some, None, inl, inr, refl, subst, sym, ◌∙◌, ap}
 use Rattle.std.specs.Prelude.{not}
 use Rattle.std.proofs.lemmas.Bool.{cases_eq}
 use Rattle.fx_ballot.specs.Laws.{vote_of, held, TrueSlots}
@@ -14,13 +14,13 @@ use Rattle.fx_machine.specs.Nodes.{Node, Act, has_ended}
 use Rattle.fx_machine.specs.Setup.{Setup}
 use Rattle.fx_fleet.specs.Runs.{job_setup}
 use Rattle.fx_fleet.specs.World.{World, up, does}
-use Rattle.fx_legal.specs.Ledger.{Chapter, Ledger}
+use Rattle.fx_legal.specs.Ledger.{Ledger}
 use Rattle.fx_legal.specs.Stands.{Stand, is_killed}
 use Rattle.fx_losses.specs.Eras.{Era, first_era, era_of, next_era, era}
 use Rattle.fx_losses.proofs.Eras.{next_none}
 use Rattle.fx_losses.proofs.Moves.{at_one, one_here, one_far, each_node}
 use Rattle.fx_losses.proofs.Shows.{phase_of, Shows, up_parts, now_at}
-use Rattle.fx_losses.proofs.Standing.{LikeEra, Like, Liked, liked, unliked, AtStage, lives}
+use Rattle.fx_losses.proofs.Standing.{Like, Liked, liked, unliked, AtStage, lives}
 use Rattle.fx_losses.proofs.Votes.{Slotted, alive_slot}
 
 pub record Linked (job : Job) (w : World) (z : ℕ → ballot.World) (fate : ℕ → Option (List Slot)) (l : Ledger) : Type 0 where
@@ -48,14 +48,6 @@ unjoined s w z fate q d x h e m k out = of (fate d) refl
     of : (o : Option (List Slot)) → fate d ≡ o → fate d ≡ None
     of None f = f
     of (Some g) f = absurd (bad g f)
-
--- who is present by the ballots and lives is present by the journal
-pub present_in : (l : Ledger) (d : ℕ) (x : Era) (y : Chapter) (p : ℕ) → LikeEra l d x y → has x.who p ≡ true → is_killed (l.stands p) ≡ false → y.present p ≡ true
-present_in l d x y p h m k = of (y.present p) refl
-  where
-    of : (b : Bool) → y.present p ≡ b → y.present p ≡ true
-    of true e = e
-    of false e = absurd (let bad : true ≡ false = sym (h.rest p m e).0 ∙ k in cc)
 
 -- one that is up, in no ballot of an epoch: the epoch of its node is the last one that the journal has
 pub record Stance (l : Ledger) (n : Node) : Type 0 where

@@ -1,5 +1,5 @@
 -- Losses keep what the world shows; and what the first world shows.
-use Rattle.std.proofs.Common.{◌≡◌, ℕ, ◌<◌, ◌≢◌, suc, Bool, true, false, ◌&&◌, List, length, Option, Some, None, inl, inr, arith, refl, subst, sym, ◌∙◌, ap}
+use Rattle.std.proofs.Common.{◌≡◌, ℕ, ◌≢◌, suc, Bool, true, false, ◌&&◌, List, length, Option, Some, None, inl, inr, arith, refl, subst, sym, ◌∙◌, ap}
 use Rattle.std.specs.Prelude.{not, nat_lt}
 use Rattle.std.proofs.lemmas.Bool.Decides.{nat_tests}
 use Rattle.std.proofs.lemmas.Bool.{cases_eq}
@@ -20,6 +20,7 @@ use Rattle.fx_losses.proofs.Actions.{kept_blank}
 use Rattle.fx_losses.proofs.Shows.{is_begin, Fits, Sane, EndedAs, role_after, Shows, up_parts}
 use Rattle.fx_losses.proofs.Texts.{put_same, put_other, of_epoch, shown}
 use Rattle.fx_losses.proofs.Events.{owes_same}
+use Rattle.fx_losses.proofs.Tests.{less_is}
 
 -- ---- a loss
 
@@ -115,11 +116,8 @@ start_shows s = record {
     later = λ e. absurd (let bad : false ≡ true = e in cc);
     placed = λ e. absurd (let bad : false ≡ true = e in cc);
     inside = λ ph e. absurd (let bad : true ≡ false = ap is_begin e in cc);
-    mine = λ l. has_all s.procs q ∙ below q s.procs l;
+    mine = λ l. has_all s.procs q ∙ less_is q s.procs l;
   };
   over = λ q k e. absurd (let bad : false ≡ true = e in cc);
   told = λ q c e. absurd (let bad : false ≡ true = e in cc);
 }
-  where
-    below : (a b : ℕ) → a < b → nat_lt a b ≡ true
-    below a b e = grind (arith, nat_tests)

@@ -2,20 +2,12 @@
 use Rattle.std.proofs.Common.{◌≡◌, ℕ, ◌+◌, ◌==◌, suc, Bool, true, false, cond, ◌||◌, List, [], ◌∷◌, ◌++◌, Option, Some, arith, refl, sym, ◌∙◌, ap}
 use Rattle.std.specs.Prelude.{if◌then◌else◌}
 use Rattle.std.specs.Option.{option_map}
-use Rattle.std.proofs.lemmas.Bool.Decides.{nat_tests}
 use Rattle.fx_base.specs.declared.names.Ident.{Ident}
 use Rattle.fx_ballot.specs.Names.{seat_of}
 use Rattle.fx_comm.specs.Seats.{Seat, has_place, place_in, spares_of, refilled, spares_left, filled, repaired}
 use Rattle.fx_machine.specs.Nodes.{procs_of}
-
-or_left : (a b : Bool) → a ≡ true → (a || b) ≡ true
-or_left a b e = grind (arith, nat_tests)
-
-or_right : (a b : Bool) → b ≡ true → (a || b) ≡ true
-or_right a b e = grind (arith, nat_tests)
-
-equal : (a b : ℕ) → (a == b) ≡ true → a ≡ b
-equal a b e = grind (arith, nat_tests)
+use Rattle.fx_losses.proofs.Tests.{or_left, or_right}
+use Rattle.fx_calm.proofs.Lists.{equal}
 
 plus_one : (k : ℕ) → k + 1 ≡ suc k
 plus_one k = omega arith

@@ -20,7 +20,7 @@ use Rattle.fx_machine.specs.Setup.{Setup}
 use Rattle.fx_machine.specs.Texts as text
 use Rattle.fx_machine.specs.Texts.{Text}
 use Rattle.fx_fleet.specs.World.{World, up}
-use Rattle.fx_calm.proofs.Lists.{Each}
+use Rattle.fx_calm.proofs.Lists.{Each, equal}
 use Rattle.fx_losses.specs.Eras.{Era, era_of}
 use Rattle.fx_losses.proofs.Actions.{kept_here}
 use Rattle.fx_losses.proofs.Moves.{some_era}
@@ -28,6 +28,7 @@ use Rattle.fx_losses.proofs.Shows.{Shows, Spoke, IsTrue, Truthful, up_parts}
 use Rattle.fx_losses.proofs.Texts.{with_front, of_epoch, heard_of, knowing, shown}
 use Rattle.fx_losses.proofs.Turns.{shown_turn}
 use Rattle.fx_losses.proofs.Votes.{Slotted, alive_slot}
+use Rattle.fx_losses.proofs.Tests.{or_left, or_right}
 
 -- ---- what is heard, read text by text
 
@@ -136,17 +137,8 @@ all_of test (x ∷ xs) h = both (test x) (list_all test xs) (h 0 x refl) (all_of
     both : (a b : Bool) → a ≡ true → b ≡ true → (a && b) ≡ true
     both a b x y = grind (arith, nat_tests)
 
-or_right : (a b : Bool) → b ≡ true → (a || b) ≡ true
-or_right a b e = grind (arith, nat_tests)
-
-or_left : (a b : Bool) → a ≡ true → (a || b) ≡ true
-or_left a b e = grind (arith, nat_tests)
-
 all_three : (a b c : Bool) → a ≡ true → b ≡ true → c ≡ true → (a && (b && c)) ≡ true
 all_three a b c x y z = grind (arith, nat_tests)
-
-equal : (a b : ℕ) → (a == b) ≡ true → a ≡ b
-equal a b e = grind (arith, nat_tests)
 
 same_number : (a b : ℕ) → a ≡ b → (a == b) ≡ true
 same_number a b e = grind (arith, nat_tests)

@@ -1,7 +1,6 @@
 -- How the world shows the ballot at the begin of each epoch, also of those that haven't begun.
-use Rattle.std.proofs.Common.{◌≡◌, ℕ, ◌<◌, ◌≢◌, zero, suc, Bool, true, false, ◌&&◌, List, length, Option, Some, None, arith, refl}
+use Rattle.std.proofs.Common.{◌≡◌, ℕ, ◌<◌, ◌≢◌, zero, suc, Bool, true, false, ◌&&◌, List, length, Option, Some, None, refl}
 use Rattle.std.specs.Prelude.{not, nat_lt, if◌then◌else◌}
-use Rattle.std.proofs.lemmas.Bool.Decides.{nat_tests}
 use Rattle.fx_base.specs.declared.names.Role.{Role}
 use Rattle.fx_base.specs.declared.names.Role.TheVariants as role
 use Rattle.fx_ballot.specs.Names.{seat_at, seat_of, has}
@@ -22,6 +21,7 @@ use Rattle.fx_fleet.specs.World.{World, up}
 use Rattle.fx_calm.proofs.Lists.{Each}
 use Rattle.fx_losses.specs.Eras.{Era, first_era, era_of, is_last, era}
 use Rattle.fx_losses.proofs.Texts.{of_epoch, shown}
+use Rattle.fx_losses.proofs.Tests.{is_less}
 
 -- ---- stages
 
@@ -154,11 +154,8 @@ pub record Truthful (s : Setup) (w : World) (z : ℕ → ballot.World) (fate : �
 pub up_parts : (s : Setup) (w : World) (q : ℕ) → up s w q ≡ true → (q < s.procs) × (w.killed q ≡ false) × (has_ended (w.node q) ≡ false)
 up_parts s w q h = parts (nat_lt q s.procs) (w.killed q) (has_ended (w.node q)) refl h
   where
-    below : (a b : ℕ) → nat_lt a b ≡ true → a < b
-    below a b e = grind (arith, nat_tests)
-
     parts : (l k e : Bool) → nat_lt q s.procs ≡ l → (l && (not k && not e)) ≡ true → (q < s.procs) × (k ≡ false) × (e ≡ false)
-    parts true false false t h = (below q s.procs t, refl, refl)
+    parts true false false t h = (is_less q s.procs t, refl, refl)
     parts true true e t h = absurd (let bad : false ≡ true = h in cc)
     parts true false true t h = absurd (let bad : false ≡ true = h in cc)
     parts false k e t h = absurd (let bad : false ≡ true = h in cc)

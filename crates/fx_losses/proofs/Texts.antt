@@ -13,6 +13,7 @@ use Rattle.fx_machine.specs.Setup.{Setup}
 use Rattle.fx_machine.specs.Texts as text
 use Rattle.fx_machine.specs.Texts.{Text}
 use Rattle.fx_fleet.specs.World.{World, up, sent_to, does}
+use Rattle.fx_calm.proofs.Lists.{equal}
 
 -- ---- lists
 
@@ -156,9 +157,6 @@ pub link_shows : (s : Setup) (e p : ℕ) (n : Node) (act : Act) (said : List Tex
     → up s w b ≡ true → link a b ≡ of_epoch e (w.link a b) → told_all to link p (of_epoch e said) a b ≡ of_epoch e ((does s p act w).link a b)
 link_shows s e p n act said to w link a b acted ne u h = of (a == p) refl
   where
-    equal : (c d : ℕ) → (c == d) ≡ true → c ≡ d
-    equal c d e = grind (arith, nat_tests)
-
     differ : (c d : ℕ) → c ≢ d → (c == d) ≡ false
     differ c d ne = grind (arith, nat_tests)
 

@@ -1,6 +1,5 @@
 -- All that is kept and all that is under way was said, whatever happens.
-use Rattle.std.proofs.Common.{◌≡◌, ℕ, ◌==◌, suc, zero, Bool, true, ◌&&◌, List, [], ◌∷◌, ◌++◌, Option, Some, inl, inr, arith, subst, sym, ◌∙◌, ap}
-use Rattle.std.proofs.lemmas.Bool.Decides.{nat_tests}
+use Rattle.std.proofs.Common.{◌≡◌, ℕ, ◌==◌, suc, zero, Bool, true, ◌&&◌, List, [], ◌∷◌, ◌++◌, Option, Some, inl, inr, subst, sym, ◌∙◌, ap}
 use Rattle.std.proofs.lemmas.Bool.{cases_eq}
 use Rattle.fx_ballot.specs.declared.heard.Heard.{Heard}
 use Rattle.fx_ballot.specs.Laws.{vote_of, estimate_of}
@@ -17,9 +16,7 @@ use Rattle.fx_losses.specs.Eras.{Era, first_era, era}
 use Rattle.fx_losses.proofs.Moves.{Steps, at_one, one_here, one_far, each_node}
 use Rattle.fx_losses.proofs.Shows.{Shows, IsVote, IsEstimate, IsTrue, Truthful}
 use Rattle.fx_losses.proofs.Texts.{own_vote_stays, own_estimate_stays}
-
-first_of : (a b : Bool) → (a && b) ≡ true → a ≡ true
-first_of a b e = grind (arith, nat_tests)
+use Rattle.fx_losses.proofs.Tests.{first_of}
 
 -- ---- what was said stays said
 

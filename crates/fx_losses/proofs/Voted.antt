@@ -25,6 +25,7 @@ use Rattle.fx_legal.specs.Legal.{written_all}
 use Rattle.fx_losses.specs.Eras.{Era, first_era, era}
 use Rattle.fx_losses.specs.Losses.{HasLoss, RepairsLoss, IsOwedLoss, RepairLosses}
 use Rattle.fx_losses.proofs.Moves.{at_one, one_here, one_far}
+use Rattle.fx_losses.proofs.Tests.{some_slot}
 
 pub record Kinds (s : Setup) (z : ℕ → ballot.World) (fate : ℕ → Option (List Slot)) : Type 0 where
   pub final : (d q : ℕ) (v : Slot) (x : Era) → 0 < d → era (first_era s) fate d ≡ Some x → vote_of (z d) q ≡ Some v → has_place x.comm q ≡ true → v ≡ slot.Final
@@ -45,9 +46,6 @@ pub got_is : (slots : List Slot) (k : ℕ) (v : Slot) → slice_get slots k ≡ 
 got_is [] zero v e = absurd (let bad : None ≡ Some v = e in cc)
 got_is [] (suc k) v e = absurd (let bad : None ≡ Some v = e in cc)
 got_is (x ∷ xs) zero v e = some_slot x v e
-  where
-    some_slot : (x y : Slot) → Some x ≡ Some y → x ≡ y
-    some_slot x y e = cc
 got_is (x ∷ xs) (suc k) v e = got_is xs k v e
 
 -- what an epoch owes that is repaired

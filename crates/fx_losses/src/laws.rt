@@ -1,17 +1,21 @@
 //! Laws of runs with any events, kills and notices among them.
 
-ghost use Rattle.std.specs.Prelude.{◌≡◌, ℕ, true};
+ghost use Rattle.std.specs.Prelude.{◌≡◌, ℕ, true, List};
 ghost use Rattle.fx_script.specs.declared.job.Job.{Job};
 ghost use Rattle.fx_check.specs.Acceptance.{IsAccepted};
 ghost use Rattle.fx_check.specs.Work.{bound_of};
-ghost use Rattle.fx_fleet.specs.Rounds.{all_over, whole};
+ghost use Rattle.fx_machine.specs.Setup.{Setup};
+ghost use Rattle.fx_item.specs.declared.item.Item.{Item};
+ghost use Rattle.fx_fleet.specs.Rounds.{journal, Moment, all_over, whole};
 ghost use Rattle.fx_fleet.specs.Runs.{AsksNothing, job_setup, moments_of, rest_bound_of, journal_of};
-ghost use Rattle.fx_legal.specs.Legal.{IsLegalWhole, AllHaveEnded};
-ghost use Rattle.fx_losses.specs.Losses.{EachEpochHasItsLoss};
+ghost use Rattle.fx_legal.specs.Legal.{IsLegal, IsLegalWhole, ledger_of, AllHaveEnded};
+ghost use Rattle.fx_losses.specs.Losses.{EachEpochHasItsLoss, EpochsAreSized, EpochsAgree};
 
-/// The journal of an accepted job whose body asks nothing is legal and tells the whole schedule, whatever its events are.
+/// The journal of an accepted job whose body asks nothing is legal and tells the whole schedule, whatever its events are; and so it is with
+/// any other fuel of a rest and any other bound of the tail.
 pub fn journals_are_legal()
-    ensures { (job : Job) → IsAccepted job → AsksNothing job → IsLegalWhole job (journal_of job) }
+    ensures whole { (job : Job) → IsAccepted job → AsksNothing job → IsLegalWhole job (journal_of job) }
+    ensures within { (job : Job) → IsAccepted job → AsksNothing job → (fuel bound : ℕ) → IsLegalWhole job (journal (job_setup job) fuel bound (moments_of job)) }
 {}
 
 /// Where each process that wasn't killed has ended behind the tail of such a run, the journal shows an end or a kill of each; and where
@@ -26,4 +30,15 @@ pub fn journals_show_all_ends()
 /// Each epoch of such a journal has its loss: before it is repaired, a process that had a place in the epoch before it was killed, from epoch 2 on.
 pub fn each_epoch_has_its_loss()
     ensures { (job : Job) → IsAccepted job → AsksNothing job → EachEpochHasItsLoss job (journal_of job) }
+{}
+
+/// In each legal journal of an accepted job the size of an epoch is the lesser of the ranks and the number of those present.
+pub fn epochs_are_sized()
+    ensures { (job : Job) → IsAccepted job → (items : List Item) → IsLegal job items → EpochsAreSized job (ledger_of job items) }
+{}
+
+/// Whatever the bodies ask: in every world that arises, of processes that weren't killed those in one epoch have the same present set and
+/// communicator, and each is present in its own epoch.
+pub fn epochs_agree()
+    ensures { (s : Setup) (fuel bound : ℕ) (moments : List Moment) → EpochsAgree s (whole s fuel bound moments) }
 {}

@@ -3,4 +3,7 @@ use Rattle.fx_losses.proofs.Legality as law
 use Rattle.fx_losses.proofs.laws.journals_are_legal.Goals as goal
 
 pub returns : goal.returns
-returns c = λ job is asks. law.is_legal job asks (kills_processes job is)
+returns c = record {
+  whole = λ job is asks. law.is_legal job asks (kills_processes job is);
+  within = λ job is asks fuel bound. law.is_legal_within job asks (kills_processes job is) fuel bound;
+}
