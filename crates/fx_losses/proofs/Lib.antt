@@ -33,3 +33,5 @@ pub mod Legality
 pub mod Accepted
 pub mod Sizes
 pub mod Row
+pub mod Counts
+pub mod Stuck
