@@ -1,9 +1,9 @@
 -- How many epochs there are: each from 1 on has fewer members than the one before, where who has a place votes `final`.
-use Rattle.std.proofs.Common.{◌≡◌, ℕ, ◌+◌, ◌<◌, ◌≤◌, ◌==◌, zero, suc, Bool, true, false, cond, ◌||◌, ◌&&◌, List, [], ◌∷◌, length, get_or, Option, Some, None, arith, refl, subst, sym, ◌∙◌, ap}
+use Rattle.std.proofs.Common.{◌≡◌, ℕ, ◌+◌, ◌<◌, ◌≤◌, ◌==◌, zero, suc, Bool, true, false, cond, ◌||◌, ◌&&◌, List, [], ◌∷◌, length, get_or, Option, Some, arith, refl, subst, sym, ◌∙◌, ap}
 use Rattle.std.specs.Prelude.{nat_lt}
 use Rattle.std.proofs.lemmas.Bool.Decides.{nat_tests}
 use Rattle.std.proofs.lemmas.Bool.{cond_both}
-use Rattle.fx_ballot.specs.Laws.{vote_of, held, TrueSlots}
+use Rattle.fx_ballot.specs.Laws.{held, TrueSlots}
 use Rattle.fx_ballot.specs.Names.{seat_at, seat_of, has}
 use Rattle.fx_ballot.specs.Turn.{Decided}
 use Rattle.fx_ballot.specs.World as ballot
@@ -14,14 +14,14 @@ use Rattle.fx_machine.specs.Ballots.{voters, is_final}
 use Rattle.fx_machine.specs.Reading.{is_join}
 use Rattle.fx_machine.specs.Setup.{Setup}
 use Rattle.fx_fleet.specs.World.{World}
-use Rattle.fx_calm.proofs.Seats.{length_all}
+use Rattle.fx_calm.proofs.Seats.{has_all, length_all}
 use Rattle.fx_losses.specs.Eras.{Era, first_era, era}
 use Rattle.fx_losses.proofs.Closings.{era_places}
-use Rattle.fx_losses.proofs.Eras.{Born, born, era_distinct}
+use Rattle.fx_losses.proofs.Eras.{Born, born, era_distinct, voters_among}
 use Rattle.fx_losses.proofs.Finals.{one_not_final}
 use Rattle.fx_losses.proofs.Moves.{some_era}
 use Rattle.fx_losses.proofs.Shows.{Shows}
-use Rattle.fx_losses.proofs.Tests.{or_itself, or_right, less_is}
+use Rattle.fx_losses.proofs.Tests.{is_less, less_is}
 use Rattle.fx_losses.proofs.Voted.{Kinds, got_is}
 use Rattle.fx_losses.proofs.Votes.{Slotted, voter_voted}
 
@@ -93,3 +93,10 @@ module _ (s : Setup) (w : World) (z : ℕ → ballot.World) (fate : ℕ → Opti
   pub epochs_few : (d : ℕ) (x : Era) → era (first_era s) fate d ≡ Some x → d ≤ s.procs + 1
   epochs_few zero x e = omega arith
   epochs_few (suc d) x e = let few = few_members d x e in omega (arith, few)
+
+-- who is present in an epoch is a process of the job
+pub era_below : (s : Setup) (fate : ℕ → Option (List Slot)) (d : ℕ) (x : Era) (q : ℕ) → era (first_era s) fate d ≡ Some x → has x.who q ≡ true → q < s.procs
+era_below s fate zero x q e there = is_less q s.procs (sym (has_all s.procs q) ∙ ap (λ (o : Era). has o.who q) (some_era (first_era s) x e) ∙ there)
+era_below s fate (suc d) x q e there =
+    let b = born d (era (first_era s) fate d) (fate d) x e in
+    era_below s fate d b.before q b.at (voters_among (is_join (suc d)) b.before.who b.slots q (ap (λ (o : Era). has o.who q) b.next ∙ there))

@@ -35,3 +35,5 @@ pub mod Sizes
 pub mod Row
 pub mod Counts
 pub mod Stuck
+pub mod Still
+pub mod Over

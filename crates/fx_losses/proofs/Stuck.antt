@@ -1,6 +1,6 @@
 -- Where a process may be quiet that hasn't ended: in the ballot of an epoch, or as a spare.
-use Rattle.std.proofs.Common.{◌≡◌, ◌≢◌, ◌<◌, ◌≤◌, ℕ, zero, suc, ◌+◌, ◌==◌, Bool, true, false, ◌&&◌, ◌||◌, List, [], ◌∷◌, Option, Some, None, arith, refl, sym, ap, subst, ◌∙◌}
-use Rattle.std.specs.Prelude.{if◌then◌else◌, not, nat_lt, is_none, is_some}
+use Rattle.std.proofs.Common.{◌≡◌, ℕ, Bool, true, false, ◌||◌, List, Option, Some, None, arith, refl, sym, ap, ◌∙◌}
+use Rattle.std.specs.Prelude.{if◌then◌else◌, not, is_none}
 use Rattle.std.proofs.lemmas.Bool.Decides.{nat_tests}
 use Rattle.fx_ballot.specs.declared.poll.Poll.{Poll}
 use Rattle.fx_ballot.specs.declared.poll.Poll.TheVariants as poll
@@ -11,7 +11,7 @@ use Rattle.fx_link.specs.declared.slot.Slot.TheVariants as slot
 use Rattle.fx_script.specs.declared.job.Job.{Job}
 use Rattle.fx_walk.specs.Lengths.{OnlyPrints}
 use Rattle.fx_walk.specs.Walk.{Walk, Ends, Passes, Prints, Asks}
-use Rattle.fx_machine.specs.Ballots.{may_join, joined, joins, turned, in_ballot, decides_epoch}
+use Rattle.fx_machine.specs.Ballots.{may_join, joined, joins, turned, decides_epoch}
 use Rattle.fx_machine.specs.Nodes.{Node, Act, Stage, Begins, Joining, Arrived, Walking, Calling, Failed, Over, has_ended}
 use Rattle.fx_machine.specs.Reading.{Ballot, next_ballot, turn_in}
 use Rattle.fx_machine.specs.Setup.{Setup}
@@ -21,7 +21,6 @@ use Rattle.fx_fleet.specs.Runs.{job_setup}
 use Rattle.fx_fleet.specs.World.{World, up}
 use Rattle.fx_legal.specs.Stands.{Stand}
 use Rattle.fx_losses.proofs.Standing.{OfStage, AtStage}
-use Rattle.fx_losses.proofs.Tests.{less_is}
 
 -- where it stands that no action is enabled
 pub data Stuck (n : Node) : Type 0 where

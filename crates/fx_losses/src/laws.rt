@@ -11,7 +11,7 @@ ghost use Rattle.fx_fleet.specs.Rounds.{is_of_journal, all_happen, journal, Mome
 ghost use Rattle.fx_fleet.specs.World.{first_world};
 ghost use Rattle.fx_fleet.specs.Runs.{AsksNothing, job_setup, moments_of, rest_bound_of, journal_of};
 ghost use Rattle.fx_legal.specs.Legal.{IsLegal, IsLegalWhole, ledger_of, AllHaveEnded};
-ghost use Rattle.fx_losses.specs.Losses.{EachEpochHasItsLoss, EpochsAreSized, EpochsAgree};
+ghost use Rattle.fx_losses.specs.Losses.{EachEpochHasItsLoss, EpochsAreSized, EpochsAgree, IsStill};
 
 /// The journal of an accepted job whose body asks nothing is legal and tells the whole schedule, whatever its events are; and so it is with
 /// any other fuel of a rest and any other bound of the tail. Behind a front of the schedule what is written so far is legal.
@@ -34,6 +34,13 @@ pub fn journals_show_all_ends()
 /// Each epoch of such a journal has its loss: before it is repaired, a process that had a place in the epoch before it was killed, from epoch 2 on.
 pub fn each_epoch_has_its_loss()
     ensures { (job : Job) → IsAccepted job → AsksNothing job → EachEpochHasItsLoss job (journal_of job) }
+{}
+
+/// No processes wait for one another for ever: where nothing is under way in the world of such a run, all losses are told and no action
+/// is enabled, each process that wasn't killed has ended.
+pub fn still_worlds_are_over()
+    ensures { (job : Job) → IsAccepted job → AsksNothing job → (fuel bound : ℕ) → IsStill (job_setup job) (whole (job_setup job) fuel bound (moments_of job))
+        → all_over (job_setup job) (whole (job_setup job) fuel bound (moments_of job)) ≡ true }
 {}
 
 /// In each legal journal of an accepted job the size of an epoch is the lesser of the ranks and the number of those present.
