@@ -144,7 +144,7 @@ module _ (job : Job) (ps : List ℕ) (w : World) (is : Legally job ps w) (few : 
   stuck_at q on =
       let k = up_parts s w q on in
       let small : (w.node q).epoch ≤ s.procs + 1 = epoch_few q k.1 in
-      stuck job (w.node q) _ (less_is (w.node q).epoch 4294967295 (omega (arith, small, few))) k.2 (is.linked.stands q k.1) (no_next s w q on (st.quiet q))
+      stuck job (w.node q) _ (less_is (w.node q).epoch 4294967295 (omega (arith, small, few))) k.2 (is.linked.stands q k.1) (no_next s w q on (st.quiet q on))
 
   -- ---- what it has heard
 
@@ -158,19 +158,19 @@ module _ (job : Job) (ps : List ℕ) (w : World) (is : Legally job ps w) (few : 
           absurd (let bad : true ≡ false = sym ((is.shows.at d).living c ∙ ap not living) ∙ dead in cc)
 
   -- of one that lives it has heard the vote
-  hears_vote : (q c : ℕ) → up s w q ≡ true → q ≢ c → w.killed c ≡ false → (((z (w.node q).epoch).member q).heard c).vote ≡ vote_of (z (w.node q).epoch) c
-  hears_vote q c on ne living =
+  hears_vote : (q c : ℕ) → up s w q ≡ true → q ≢ c → c < s.procs → w.killed c ≡ false → (((z (w.node q).epoch).member q).heard c).vote ≡ vote_of (z (w.node q).epoch) c
+  hears_vote q c on ne low living =
       let k = up_parts s w q on in
       let d = (w.node q).epoch in
       let sees = names_members (w.node q).present q ∙ (is.shows.sane q k.1).mine k.0 in
       let trail = (kept_here s w z fate q on is.shows).caught.trail q c sees ne (lost_not q c (w.node q).epoch (era_of (w.node q)) (is.shows.here q k.1) living) in
-      let line : (z (w.node q).epoch).link c q ≡ [] = (is.shows.at (w.node q).epoch).link c q (λ same. ne (sym same)) on ∙ ap (of_epoch (suc (w.node q).epoch)) (st.clear c q (λ same. ne (sym same)) on) in
+      let line : (z (w.node q).epoch).link c q ≡ [] = (is.shows.at (w.node q).epoch).link c q (λ same. ne (sym same)) on ∙ ap (of_epoch (suc (w.node q).epoch)) (st.clear c q low (λ same. ne (sym same)) on) in
       ap (λ (xs : List Message). (hear_all xs (((z (w.node q).epoch).member q).heard c)).vote) (sym line) ∙ trail.vote
 
   left_seen : (q c : ℕ) → up s w q ≡ true → q ≢ c → w.killed c ≡ false → has (w.node q).present c ≡ true → is_some (vote_of (z (w.node q).epoch) c) ≡ true → has_left (w.node q) c ≡ true
   left_seen q c on ne living there voted =
       both_true (has (w.node q).present c) (is_some (reading.vote_of (next_ballot (w.node q)) (w.node q) c)) there
-      (ap is_some (vote_shown s w z fate q on is.shows is.truthful c ∙ hears_vote q c on ne living) ∙ voted)
+      (ap is_some (vote_shown s w z fate q on is.shows is.truthful c ∙ hears_vote q c on ne (era_below s fate (w.node q).epoch (era_of (w.node q)) c (is.shows.here q (up_parts s w q on).1) there) living) ∙ voted)
 
   -- a spare isn't stuck where a member that lives has voted
   not_idle : (q c : ℕ) → up s w q ≡ true → may_help_out (w.node q) ≡ false → q ≢ c → w.killed c ≡ false → has (w.node q).present c ≡ true → is_some (vote_of (z (w.node q).epoch) c) ≡ true → ⊥
@@ -291,10 +291,10 @@ module _ (job : Job) (ps : List ℕ) (w : World) (is : Legally job ps w) (few : 
 
       attentive : Attentive (length n.present) (seat_at n.present) (z d) p
       attentive = record {
-        clear = λ c less ne. (is.shows.at d).link (seat_at n.present c) p ne on ∙ ap (of_epoch (suc d)) (st.clear (seat_at n.present c) p ne on);
+        clear = λ c less ne. (is.shows.at d).link (seat_at n.present c) p ne on ∙ ap (of_epoch (suc d)) (st.clear (seat_at n.present c) p (era_below s fate d (era_of n) (seat_at n.present c) era_here (has_seat n.present c less)) ne on);
         told = λ c less ne dead.
             ap (λ (x : Heard). x.lost) ((is.shows.at d).heard p (seat_at n.present c) on) ∙ (lost_heard (suc d) (n.texts (seat_at n.present c)) (knowing (n.lost (seat_at n.present c)))).0
-            ∙ st.told (seat_at n.present c) p (dead_of (seat_at n.present c) dead) on;
+            ∙ st.told (seat_at n.present c) p (era_below s fate d (era_of n) (seat_at n.present c) era_here (has_seat n.present c less)) (dead_of (seat_at n.present c) dead) on;
       }
 
       -- Where nobody polls who isn't as far, it isn't held back.
@@ -413,7 +413,7 @@ module _ (job : Job) (ps : List ℕ) (w : World) (is : Legally job ps w) (few : 
         of : (b : Bool) → w.killed holder.0 ≡ b → ⊥
         of true dead =
             let bad : true ≡ false = sym (or_right (list_any (has_left (w.node p)) (w.node p).present) (list_any (w.node p).lost (members (w.node p)))
-            (any_member (w.node p).lost (w.node p).comm holder.0 holder.1 (st.told holder.0 p dead on))) ∙ help in cc
+            (any_member (w.node p).lost (w.node p).comm holder.0 holder.1 (st.told holder.0 p (era_below s fate (w.node p).epoch (era_of (w.node p)) holder.0 (is.shows.here p kp.1) member_of) dead on))) ∙ help in cc
         of false living = not_idle p holder.0 on help apart living member_of (voted_inside p on low holder.0 (voted living))
 
     -- so nobody is up, epoch by epoch

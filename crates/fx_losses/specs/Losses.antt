@@ -49,9 +49,9 @@ pub record EpochsAgree (s : Setup) (w : World) : Type 0 where
   pub comm : (p q : ℕ) → w.killed p ≡ false → w.killed q ≡ false → (w.node p).epoch ≡ (w.node q).epoch → (w.node p).comm ≡ (w.node q).comm
   pub there : (p : ℕ) → p < s.procs → w.killed p ≡ false → has (w.node p).present p ≡ true
 
--- Nothing more can happen but a loss: nothing is under way to any process that is up, each of those was told of each loss, and no action of
--- any is enabled.
+-- Nothing more can happen but a loss: nothing is under way between processes that are up and others of the job, each was told of each
+-- loss, and no action of any is enabled.
 pub record IsStill (s : Setup) (w : World) : Type 0 where
-  pub clear : (p q : ℕ) → p ≢ q → up s w q ≡ true → w.link p q ≡ []
-  pub told : (p q : ℕ) → w.killed p ≡ true → up s w q ≡ true → (w.node q).lost p ≡ true
-  pub quiet : (p : ℕ) → is_quiet s p w ≡ true
+  pub clear : (p q : ℕ) → p < s.procs → p ≢ q → up s w q ≡ true → w.link p q ≡ []
+  pub told : (p q : ℕ) → p < s.procs → w.killed p ≡ true → up s w q ≡ true → (w.node q).lost p ≡ true
+  pub quiet : (p : ℕ) → up s w p ≡ true → is_quiet s p w ≡ true
