@@ -75,7 +75,7 @@ in_repair : (present : ℕ → Bool) (old : List Seat) (p : ℕ) → has_place (
 in_repair present old p e = in_seats present (repaired old present) p (repaired_present present old) e
 
 -- who has a place in an epoch from 1 on is present in it
-era_places : (s : Setup) (fate : ℕ → Option (List Slot)) (d : ℕ) (x : Era) (q : ℕ) → 0 < d → era (first_era s) fate d ≡ Some x → has_place x.comm q ≡ true → has x.who q ≡ true
+pub era_places : (s : Setup) (fate : ℕ → Option (List Slot)) (d : ℕ) (x : Era) (q : ℕ) → 0 < d → era (first_era s) fate d ≡ Some x → has_place x.comm q ≡ true → has x.who q ≡ true
 era_places s fate zero x q pos e place = absurd (omega (arith, pos))
 era_places s fate (suc d) x q pos e place =
     let b = born_from d (era (first_era s) fate d) (fate d) x e in

@@ -1,13 +1,14 @@
 -- The journal of a run with any events is legal, and shows all ends.
 use Rattle.std.proofs.lemmas.Bool.Decides.{nat_tests}
-use Rattle.std.proofs.Common.{arith, ◌≡◌, ◌<◌, ℕ, zero, suc, Bool, true, false, List, [], ◌∷◌, Option, Some, None, refl, sym, ap, subst, ◌∙◌}
+use Rattle.std.specs.List.{filter}
+use Rattle.std.proofs.Common.{arith, ◌≡◌, ◌<◌, ℕ, zero, suc, Bool, true, false, List, [], ◌∷◌, ◌++◌, Option, Some, None, refl, sym, ap, subst, ◌∙◌}
 use Rattle.std.specs.Prelude.{nat_lt, not, if◌then◌else◌}
 use Rattle.fx_ballot.specs.World.{start}
 use Rattle.fx_check.specs.Work.{bound_of}
 use Rattle.fx_link.specs.declared.slot.Slot.{Slot}
 use Rattle.fx_script.specs.declared.job.Job.{Job}
 use Rattle.fx_store.proofs.Mirrors.{each_at, each_from}
-use Rattle.fx_fleet.specs.Rounds.{journal, all_over, whole}
+use Rattle.fx_fleet.specs.Rounds.{Moment, is_of_journal, all_happen, journal, all_over, whole}
 use Rattle.fx_fleet.specs.Runs.{AsksNothing, job_setup, moments_of, rest_bound_of, journal_of}
 use Rattle.fx_fleet.specs.World.{World, first_world, up}
 use Rattle.fx_calm.proofs.Lists.{Each}
@@ -15,12 +16,12 @@ use Rattle.fx_calm.proofs.Seats.{has_all}
 use Rattle.fx_calm.proofs.Standing.{noted}
 use Rattle.fx_legal.specs.Effects.{due_kills}
 use Rattle.fx_legal.specs.Ledger.{Chapter, first_ledger, first_chapter, procs_of}
-use Rattle.fx_legal.specs.Legal.{ledger_of, IsLegalWhole, AllHaveEnded}
+use Rattle.fx_legal.specs.Legal.{ledger_of, IsLegal, IsLegalWhole, AllHaveEnded}
 use Rattle.fx_losses.specs.Eras.{Era, first_era, era}
 use Rattle.fx_losses.specs.Losses.{EachEpochHasItsLoss}
 use Rattle.fx_losses.proofs.Eras.{next_none}
 use Rattle.fx_losses.proofs.Losses.{start_shows}
-use Rattle.fx_losses.proofs.Moments.{IsKeptAlong, always_along}
+use Rattle.fx_losses.proofs.Moments.{IsKeptAlong, behind_front, always_along}
 use Rattle.fx_losses.proofs.Schedule.{kills_of, kills_are, due_past}
 use Rattle.fx_losses.proofs.Standing.{Like}
 use Rattle.fx_losses.proofs.Truths.{truthful_first}
@@ -97,6 +98,13 @@ KillsProcesses job = Each (λ p. p < procs_of job) (kills_of (moments_of job))
 
 pub legally : (job : Job) → AsksNothing job → KillsProcesses job → (fuel bound : ℕ) → Legally job [] (whole (job_setup job) fuel bound (moments_of job))
 legally job asks few fuel bound = always_along (job_setup job) (Legally job) (kept job asks) (moments_of job) few (begins job) fuel bound
+
+-- behind a front of the schedule too
+pub is_legal_so_far : (job : Job) → AsksNothing job → KillsProcesses job → (fuel : ℕ) (front more : List Moment) → moments_of job ≡ front ++ more
+    → IsLegal job (filter is_of_journal (all_happen (job_setup job) fuel front (first_world (job_setup job))).items)
+is_legal_so_far job asks few fuel front more same =
+    (behind_front (job_setup job) (Legally job) (kept job asks) fuel front more (first_world (job_setup job)) (subst (λ (l : List Moment). Each (λ p. p < procs_of job) (kills_of l)) same few)
+    (subst (λ (l : List Moment). Legally job (kills_of l) (first_world (job_setup job))) same (begins job))).goes
 
 pub is_legal_within : (job : Job) → AsksNothing job → KillsProcesses job → (fuel bound : ℕ) → IsLegalWhole job (journal (job_setup job) fuel bound (moments_of job))
 is_legal_within job asks few fuel bound = let is = legally job asks few fuel bound in (is.goes, is.due)

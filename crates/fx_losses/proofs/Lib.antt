@@ -33,3 +33,7 @@ pub mod Legality
 pub mod Accepted
 pub mod Sizes
 pub mod Row
+pub mod Counts
+pub mod Stuck
+pub mod Still
+pub mod Over

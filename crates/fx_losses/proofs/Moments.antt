@@ -1,5 +1,5 @@
 -- What steps, deliveries and notices keep, and a kill of the schedule too, holds behind the whole schedule and its tail.
-use Rattle.std.proofs.Common.{◌≡◌, ◌<◌, ℕ, true, false, ◌==◌, List, [], ◌∷◌, Option, Some, None, refl, arith}
+use Rattle.std.proofs.Common.{◌≡◌, ◌<◌, ℕ, true, false, ◌==◌, List, [], ◌∷◌, ◌++◌, Option, Some, None, refl, arith, sym, subst}
 use Rattle.fx_machine.specs.Nodes.{Act}
 use Rattle.fx_machine.specs.Setup.{Setup}
 use Rattle.fx_machine.specs.Steps.{next}
@@ -10,6 +10,7 @@ use Rattle.fx_fleet.specs.Rounds.{Moment, Step, Rest, Deliver, Kill, Notice, Run
 use Rattle.fx_deeds.proofs.Whole.{until_keeps, rising_keep, rest_left, still_up}
 use Rattle.fx_calm.proofs.Lists.{Each, chosen}
 use Rattle.std.proofs.lemmas.Bool.Decides.{nat_tests}
+use Rattle.fx_losses.proofs.Texts.{append_none}
 use Rattle.fx_losses.proofs.Schedule.{kills_of}
 
 -- It speaks of the kills that are still to come. A step, a delivery and a notice keep it; a kill takes the first of them away.
@@ -84,9 +85,14 @@ module _ (s : Setup) (Is : List ℕ → World → Type 0) (k : IsKeptAlong s Is)
   fewer (Notice p q) ms few = few
   fewer (Run count) ms few = few
 
+  -- behind a front of the schedule those behind it are still to come
+  pub behind_front : (fuel : ℕ) (front more : List Moment) (w : World) → Each (λ p. p < s.procs) (kills_of (front ++ more)) → Is (kills_of (front ++ more)) w → Is (kills_of more) (all_happen s fuel front w)
+  behind_front fuel [] more w few is = is
+  behind_front fuel (m ∷ ms) more w few is = behind_front fuel ms more (happens s fuel m w) (fewer m (ms ++ more) few) (moment_keeps fuel m (ms ++ more) w few is)
+
   moments_keep : (fuel : ℕ) (ms : List Moment) (w : World) → Each (λ p. p < s.procs) (kills_of ms) → Is (kills_of ms) w → Is [] (all_happen s fuel ms w)
-  moments_keep fuel [] w few is = is
-  moments_keep fuel (m ∷ ms) w few is = moments_keep fuel ms (happens s fuel m w) (fewer m ms few) (moment_keeps fuel m ms w few is)
+  moments_keep fuel ms w few is =
+      behind_front fuel ms [] w (subst (λ (l : List Moment). Each (λ p. p < s.procs) (kills_of l)) (sym (append_none ms)) few) (subst (λ (l : List Moment). Is (kills_of l) w) (sym (append_none ms)) is)
 
   pub always_along : (ms : List Moment) → Each (λ p. p < s.procs) (kills_of ms) → Is (kills_of ms) (world.first_world s) → (fuel bound : ℕ) → Is [] (whole s fuel bound ms)
   always_along ms few first fuel bound =

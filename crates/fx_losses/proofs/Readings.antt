@@ -93,7 +93,7 @@ estimate_heard e (text.Help d k packed ∷ ts) h = estimate_heard e ts h
 estimate_heard e (text.Give d k packed ∷ ts) h = estimate_heard e ts h
 
 -- no text of a ballot at the begin of an epoch tells of losses or leavings
-lost_heard : (e : ℕ) (ts : List Text) (h : Heard) → ((heard_of (of_epoch e ts) h).lost ≡ h.lost) × ((heard_of (of_epoch e ts) h).left ≡ h.left)
+pub lost_heard : (e : ℕ) (ts : List Text) (h : Heard) → ((heard_of (of_epoch e ts) h).lost ≡ h.lost) × ((heard_of (of_epoch e ts) h).left ≡ h.left)
 lost_heard e [] h = (refl, refl)
 lost_heard e (text.Join d x ∷ ts) h = of (λ g. lost_heard e ts g) (d == e)
   where

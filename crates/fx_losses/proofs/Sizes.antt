@@ -226,10 +226,18 @@ between low high (negsuc n) e = absurd (let bad : false ≡ true = e in cc)
 at_most : (b : Bool) (n : ℕ) → (b && not (nat_lt 16 n)) ≡ true → n ≤ 32
 at_most b n e = grind (arith, nat_tests)
 
+-- the numbers of an accepted job
+pub accepted_numbers : (job : Job) → IsAccepted job → (1 ≤ ranks_of job) × (procs_of job ≤ 32)
+accepted_numbers job is =
+    let keep = all_named job is in
+    (between 1 16 job.ranks keep.0.in_range, at_most (is_between 0 16 job.spares) (procs_of job) keep.1.0.in_range)
+
+pub legal_sized : (job : Job) → IsAccepted job → (items : List Item) → IsLegal job items → Sized job (ledger_of job items)
+legal_sized job is items legal =
+    let numbers = accepted_numbers job is in
+    items_sized job (first_ledger job) items legal (first_sized job numbers.0 (omega arith) numbers.1)
+
 pub are_sized : (job : Job) → IsAccepted job → (items : List Item) → IsLegal job items → EpochsAreSized job (ledger_of job items)
 are_sized job is items legal =
-    let keep = all_named job is in
-    let some : 1 ≤ ranks_of job = between 1 16 job.ranks keep.0.in_range in
-    let few : procs_of job ≤ 32 = at_most (is_between 0 16 job.spares) (procs_of job) keep.1.0.in_range in
-    let sized = items_sized job (first_ledger job) items legal (first_sized job some (omega arith) few) in
+    let sized = legal_sized job is items legal in
     record { size = λ e c at. (sized.each e c at).size; below = λ e c at. (sized.each e c at).below }

@@ -132,7 +132,7 @@ module _ (s : Setup) (w : World) (z : ℕ → ballot.World) (fate : ℕ → Opti
   pub undecided : is_decided ((z (w.node p).epoch).member p).phase ≡ false
   undecided = ap is_decided old_phase ∙ ((h.sane p k.1).inside old at).1
 
-  same_turn : turn (length n.present) (seat_of n.present p) (λ a. (small.member p).heard (seat_at n.present a)) (small.member p).phase ≡ record { phase = phase; poll = answer }
+  pub same_turn : turn (length n.present) (seat_of n.present p) (λ a. (small.member p).heard (seat_at n.present a)) (small.member p).phase ≡ record { phase = phase; poll = answer }
   same_turn =
       ap (λ (f : ℕ → Heard). turn (length n.present) (seat_of n.present p) f (small.member p).phase) (λ i a. (h.at d).heard p (seat_at n.present a) here i)
       ∙ ap (λ (x : Phase). turn (length n.present) (seat_of n.present p) (λ a. shown (suc d) n (seat_at n.present a)) x) old_phase ∙ is

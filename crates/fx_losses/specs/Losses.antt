@@ -1,5 +1,5 @@
 -- What a journal tells of losses, and what a world shows of epochs.
-use Rattle.std.specs.Prelude.{◌≡◌, ◌<◌, min, ℕ, zero, suc, true, false, List, [], ◌∷◌, length, Some}
+use Rattle.std.specs.Prelude.{◌≡◌, ◌≢◌, ◌<◌, min, ℕ, zero, suc, true, false, List, [], ◌∷◌, length, Some}
 use Rattle.fx_base.specs.Sets.{those_below}
 use Rattle.fx_ballot.specs.Names.{has}
 use Rattle.fx_comm.specs.Seats.{has_place}
@@ -7,7 +7,8 @@ use Rattle.fx_item.specs.declared.item.Item.{Item}
 use Rattle.fx_item.specs.declared.item.Item.TheVariants as item
 use Rattle.fx_script.specs.declared.job.Job.{Job}
 use Rattle.fx_machine.specs.Setup.{Setup}
-use Rattle.fx_fleet.specs.World.{World}
+use Rattle.fx_fleet.specs.Rounds.{is_quiet}
+use Rattle.fx_fleet.specs.World.{World, up}
 use Rattle.fx_legal.specs.Effects.{written}
 use Rattle.fx_legal.specs.Ledger.{Chapter, Ledger, ranks_of, procs_of, comm_in, first_ledger}
 use Rattle.fx_legal.specs.Stands.{is_killed}
@@ -47,3 +48,10 @@ pub record EpochsAgree (s : Setup) (w : World) : Type 0 where
   pub present : (p q : ℕ) → w.killed p ≡ false → w.killed q ≡ false → (w.node p).epoch ≡ (w.node q).epoch → (w.node p).present ≡ (w.node q).present
   pub comm : (p q : ℕ) → w.killed p ≡ false → w.killed q ≡ false → (w.node p).epoch ≡ (w.node q).epoch → (w.node p).comm ≡ (w.node q).comm
   pub there : (p : ℕ) → p < s.procs → w.killed p ≡ false → has (w.node p).present p ≡ true
+
+-- Nothing more can happen but a loss: nothing is under way between processes that are up and others of the job, each was told of each
+-- loss, and no action of any is enabled.
+pub record IsStill (s : Setup) (w : World) : Type 0 where
+  pub clear : (p q : ℕ) → p < s.procs → p ≢ q → up s w q ≡ true → w.link p q ≡ []
+  pub told : (p q : ℕ) → p < s.procs → w.killed p ≡ true → up s w q ≡ true → (w.node q).lost p ≡ true
+  pub quiet : (p : ℕ) → up s w p ≡ true → is_quiet s p w ≡ true
