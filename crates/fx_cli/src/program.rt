@@ -40,8 +40,8 @@ pub fn fenix<S: Source, K: Sink>(
     // What was read and written, by the status.
     ensures ends { Ends (map string_bytes words.now) (S.state source.old) (S.state source.new) (K.state sink.old) (K.state sink.new) result }
     // Done: a text of an accepted job was read. In modes run and wire each line of its body can be run, its journal is legal and
-    // tells each kill of its schedule, each epoch in it has its loss, each process ends or is killed in it, and exactly the text of
-    // its journal was written, or of all that happens; in mode check its canonical text was.
+    // tells the whole schedule, each epoch in it has its loss, each process ends or is killed in it, and exactly the text of its
+    // journal was written, or of all that happens; in mode check its canonical text was.
     ensures done { result ≡ Status.Done → DoesWhatIsAsked (mode_of (map string_bytes words.now)) (S.state source.old) (S.state source.new) (K.state sink.old) (K.state sink.new) }
     // Unfinished: in modes run and wire alone, the tail of an accepted job's run wasn't enough, its journal is legal and each epoch
     // in it has its loss all the same, and all of the text was written.
