@@ -1,11 +1,12 @@
 -- The computed answer is the one that is due, and no other is due.
-use Rattle.std.proofs.Common.{arith, ◌≡◌, ◌≤◌, ◌<◌, ◌↔◌, ℕ, Bool, true, false, List, length, Option, Some, None, inl, inr, refl, sym, ap, ◌∙◌, subst}
+use Rattle.std.proofs.Common.{arith, ◌≡◌, ◌≤◌, ◌<◌, ◌↔◌, ℕ, Bool, true, false, List, length, get_or, Option, Some, None, inl, inr, refl, sym, ap, ◌∙◌, subst}
 use Rattle.std.specs.Prelude.{if◌then◌else◌, ◌&&◌, is_some, is_none, IsSome}
+use Rattle.std.proofs.lemmas.List.{get_or_read}
 use Rattle.std.proofs.lemmas.Bool.{and_parts, and_from, cases_lt, true≢false}
 use Rattle.fx_machine.specs.Numbers.{first_below}
 use Rattle.fx_store.proofs.Mirrors.{each_at, each_from, each_fails}
 use Rattle.fx_coll.specs.Answer.{IsWhole, LostWithout, LeftWithout, IsLeast, Nobody, IsDue, is_lost_without, has_left_without, is_whole, least_lost, least_left, broken_by, answer_of}
-use Rattle.fx_coll.specs.Keeping.{known_at}
+use Rattle.fx_coll.specs.Keeping.{known_at, unknown}
 use Rattle.fx_coll.specs.declared.known.Known.{Known}
 use Rattle.fx_coll.specs.declared.part.Part.{Part}
 use Rattle.fx_coll.specs.declared.poll.CollPoll.{CollPoll}
@@ -44,6 +45,12 @@ whole_is known is x below = is_some_that (known_at known x).part (each_at (lengt
 
 absent : (known : List Known) (x : ℕ) → x < length known → (known_at known x).part ≡ None → is_whole known ≡ false
 absent known x below none = each_fails (length known) (λ x. is_some (known_at known x).part) x below (isnt_some (known_at known x).part none)
+
+-- a member without a part is found
+pub absent_at : (known : List Known) (k : ℕ) (one : Known) → k < length known → one ≡ get_or known k one → is_none one.part ≡ true → false ≡ is_whole known
+absent_at known k one below is none =
+    let here : one ≡ known_at known k = get_or_read known k one below is unknown in
+    sym (absent known k below (is_none_that (known_at known k).part (ap (λ (o : Known). is_none o.part) (sym here) ∙ none)))
 
 -- a member without a part of whom a flag tells something
 abbrev Without : (Known → Bool) → List Known → ℕ → Type 0

@@ -29,6 +29,10 @@ first_stays test n x (suc k) is within = elim (cases_eq n (suc k)) [
 pub first_found : (test : ℕ → Bool) (n x : ℕ) → x < n → test x ≡ true → ((y : ℕ) → y < x → test y ≡ false) → first_below n test ≡ Some x
 first_found test n x below passes fails = first_stays test (suc x) x n (first_is test x (first_none test x fails) passes) (omega (arith, below))
 
+-- the first that passes is found
+pub first_met : (test : ℕ → Bool) (k n : ℕ) → k < n → first_below k test ≡ None → test k ≡ true → Some k ≡ first_below n test
+first_met test k n below none passes = sym (first_stays test (suc k) k n (first_is test k none passes) (omega (arith, below)))
+
 -- what is known of the least one, and of all where there is none
 pub record IsFirst (test : ℕ → Bool) (n x : ℕ) : Type 0 where
   pub below : x < n

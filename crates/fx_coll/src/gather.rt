@@ -84,15 +84,7 @@ impl Gather {
         ensures revoked { (x : ℕ) → (result ≡ CollPoll.Revoked x) ↔ (Nobody (LostWithout self.now) × IsLeast (LeftWithout self.now) x) }
         ensures not_yet { (result ≡ CollPoll.NotYet) ↔ ((¬ IsWhole self.now) × Nobody (LostWithout self.now) × Nobody (LeftWithout self.now)) }
     {
-        if self.is_whole() {
-            CollPoll::Done
-        } else if let Some(who) = self.least_lost() {
-            CollPoll::Failed(who)
-        } else if let Some(who) = self.least_left() {
-            CollPoll::Revoked(who)
-        } else {
-            CollPoll::NotYet
-        }
+        self.answer()
     }
 
     /// What the operation makes of the numbers of all members, in rising place. A sum wraps at 64 bits. The call is done, and
@@ -114,6 +106,20 @@ impl Gather {
         ensures { (known_at self.now from).part ≡ Some result.now }
     {
         self.known[usize::from(from)].part.as_ref().unwrap()
+    }
+
+    fn answer(&self) -> CollPoll
+        ensures { result ≡ answer_of self.now }
+    {
+        if self.is_whole() {
+            CollPoll::Done
+        } else if let Some(who) = self.least_lost() {
+            CollPoll::Failed(who)
+        } else if let Some(who) = self.least_left() {
+            CollPoll::Revoked(who)
+        } else {
+            CollPoll::NotYet
+        }
     }
 
     fn is_whole(&self) -> bool
