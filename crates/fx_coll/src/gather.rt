@@ -51,9 +51,9 @@ impl Gather {
         ensures is_given { self.new ≡ gives from part self.old }
         ensures keeps_its_members { length self.new ≡ length self.old }
     {
-        let known = &mut self.known[usize::from(from)];
-        if known.part.is_none() {
-            known.part = Some(part);
+        let given = &mut self.known[usize::from(from)].part;
+        if given.is_none() {
+            *given = Some(part);
         }
     }
 
