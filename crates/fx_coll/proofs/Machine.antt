@@ -48,8 +48,8 @@ same_first flag test known n w stands alike =
     ap (λ (k : ℕ). first_below k (λ x. is_none (known_at known x).part && flag (known_at known x))) stands.members
     ∙ first_alike (size n) (λ x. is_none (known_at known x).part && flag (known_at known x)) (λ x. is_none (part_of n w x) && test (proc_at n x))
     (λ x below.
-        both (is_none (known_at known x).part) (is_none (part_of n w x)) (flag (known_at known x)) (test (proc_at n x))
-        (isnt_there (known_at known x).part (part_of n w x) (stands.parts x below)) (alike x below))
+    both (is_none (known_at known x).part) (is_none (part_of n w x)) (flag (known_at known x)) (test (proc_at n x))
+    (isnt_there (known_at known x).part (part_of n w x) (stands.parts x below)) (alike x below))
 
 pub answers : AnswersAsTheMachine
 answers known n w rest stands =
@@ -93,8 +93,8 @@ folds known n op own stands all =
     ∙ ap (λ (k : ℕ). of_each_below k (λ x. number_in (known_at known x).part)) stands.members
     ∙ of_each_alike (size n) (λ x. number_in (known_at known x).part) (λ x. get_or (numbers_of n (wanted.Reduce op own) x) 0 (pos 0))
     (λ x below.
-        same_number (known_at known x).part (part_of n (wanted.Reduce op own) x) (stands.parts x below)
-        (all x (subst (λ (k : ℕ). x < k) (sym stands.members) below))))
+    same_number (known_at known x).part (part_of n (wanted.Reduce op own) x) (stands.parts x below)
+    (all x (subst (λ (k : ℕ). x < k) (sym stands.members) below))))
 
 -- ---- a part
 
