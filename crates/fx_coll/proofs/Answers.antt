@@ -5,13 +5,13 @@ use Rattle.std.proofs.lemmas.List.{get_or_read}
 use Rattle.std.proofs.lemmas.Bool.{and_parts, and_from, cases_lt, true≢false}
 use Rattle.fx_machine.specs.Numbers.{first_below}
 use Rattle.fx_store.proofs.Mirrors.{each_at, each_from, each_fails}
-use Rattle.fx_coll.specs.Answer.{IsWhole, LostWithout, LeftWithout, IsLeast, Nobody, IsDue, is_lost_without, has_left_without, is_whole, least_lost, least_left, broken_by, answer_of}
+use Rattle.fx_coll.specs.Answer.{IsWhole, IsLeast, Nobody, IsDue, is_whole, least_lost, least_left, broken_by, answer_of}
 use Rattle.fx_coll.specs.Keeping.{known_at, unknown}
 use Rattle.fx_coll.specs.declared.known.Known.{Known}
 use Rattle.fx_coll.specs.declared.part.Part.{Part}
 use Rattle.fx_coll.specs.declared.poll.CollPoll.{CollPoll}
 use Rattle.fx_coll.specs.declared.poll.CollPoll.TheVariants as poll
-use Rattle.fx_coll.proofs.Firsts.{first_none, first_found, IsFirst, IsOpen, Tells, first_tells}
+use Rattle.fx_coll.proofs.Firsts.{first_none, first_found, IsFirst, Tells, first_tells}
 
 -- ---- a part that is there, and one that is absent
 

@@ -1,20 +1,18 @@
 -- A node that gathers parts answers as the poll of what stands for it.
-use Rattle.std.proofs.Common.{arith, ◌≡◌, ◌<◌, ℕ, zero, suc, ℤ, pos, Bool, true, false, List, [], ◌∷◌, ◌++◌, map, length, get_or, Option, Some, None, refl, sym, ap, ◌∙◌, subst}
+use Rattle.std.proofs.Common.{arith, ◌≡◌, ◌<◌, ℕ, zero, suc, ℤ, pos, Bool, true, false, List, [], ◌∷◌, ◌++◌, length, get_or, Option, Some, None, refl, sym, ap, ◌∙◌, subst}
 use Rattle.std.specs.Prelude.{if◌then◌else◌, ◌&&◌, is_some, is_none, option_map, unwrap_or}
 use Rattle.std.specs.Option.{option_or}
-use Rattle.fx_base.specs.declared.names.Op.{Op}
 use Rattle.fx_walk.specs.declared.wanted.Wanted.{Wanted}
 use Rattle.fx_walk.specs.declared.wanted.Wanted.TheVariants as wanted
 use Rattle.fx_walk.specs.Values.{reduced}
-use Rattle.fx_walk.specs.Walk.{Walk, Reply}
-use Rattle.fx_machine.specs.Gathering.{part_of, numbers_of, total, gathered, are_gathered, missing, gathering_error, in_gathering}
-use Rattle.fx_machine.specs.Nodes.{Node, Act, size, proc_at}
+use Rattle.fx_machine.specs.Gathering.{part_of, numbers_of, gathered, are_gathered}
+use Rattle.fx_machine.specs.Nodes.{Node, size, proc_at}
 use Rattle.fx_machine.specs.Numbers.{first_below, of_each_below}
 use Rattle.fx_machine.specs.Reading.{has_left}
-use Rattle.fx_machine.specs.Waits.{Error, ByLoss, ByLeaving, returns_error}
+use Rattle.fx_machine.specs.Waits.{ByLoss, ByLeaving, returns_error}
 use Rattle.fx_store.specs.Redundancy.{each_below}
-use Rattle.fx_coll.specs.Answer.{is_whole, least_lost, least_left, broken_by, answer_of}
-use Rattle.fx_coll.specs.Keeping.{HoldsNumbers, IsNumber, known_at, number_in, numbers, folded}
+use Rattle.fx_coll.specs.Answer.{is_whole, least_lost, least_left, broken_by}
+use Rattle.fx_coll.specs.Keeping.{IsNumber, known_at, number_in, numbers}
 use Rattle.fx_coll.specs.Machine.{values_in, StandsFor, acts_by, AnswersAsTheMachine, FoldsAsTheMachine, GivesAsTheMachine}
 use Rattle.fx_coll.specs.declared.known.Known.{Known}
 use Rattle.fx_coll.specs.declared.part.Part.{Part}

@@ -1,5 +1,5 @@
 -- What a member keeps of a call: of each member, by place, the part that it gave, and whether it is lost or left; and what changes that.
-use Rattle.std.specs.Prelude.{ℕ, ◌<◌, ℤ, pos, true, false, List, [], ◌∷◌, length, map, replicate, slice_index_or, slice_set, Option, Some, None}
+use Rattle.std.specs.Prelude.{ℕ, ◌<◌, ℤ, pos, true, false, List, length, map, replicate, slice_index_or, slice_set, Option, Some, None}
 use Rattle.fx_base.specs.declared.names.Op.{Op}
 use Rattle.fx_ballot.specs.Turn.{earliest}
 use Rattle.fx_walk.specs.Values.{reduced}

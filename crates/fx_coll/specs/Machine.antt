@@ -1,5 +1,5 @@
 -- What is kept of a call, held against the machine of a node that gathers parts.
-use Rattle.std.specs.Prelude.{◌≡◌, ℕ, ◌<◌, ℤ, List, [], ◌∷◌, length, Option, Some, None, option_map, unwrap_or}
+use Rattle.std.specs.Prelude.{◌≡◌, ℕ, ◌<◌, ℤ, List, [], ◌∷◌, length, Option, Some, None, option_map}
 use Rattle.fx_base.specs.declared.names.Op.{Op}
 use Rattle.fx_walk.specs.declared.wanted.Wanted.{Wanted}
 use Rattle.fx_walk.specs.declared.wanted.Wanted.TheVariants as wanted
@@ -8,7 +8,7 @@ use Rattle.fx_machine.specs.Gathering.{part_of, numbers_of, total, gathered, in_
 use Rattle.fx_machine.specs.Nodes.{Node, Act, size, proc_at}
 use Rattle.fx_machine.specs.Reading.{has_left}
 use Rattle.fx_machine.specs.Waits.{ByLoss, ByLeaving, returns_error}
-use Rattle.fx_coll.specs.Answer.{IsWhole, answer_of}
+use Rattle.fx_coll.specs.Answer.{answer_of}
 use Rattle.fx_coll.specs.Keeping.{HoldsNumbers, known_at, folded}
 use Rattle.fx_coll.specs.declared.known.Known.{Known}
 use Rattle.fx_coll.specs.declared.part.Part.{Part}

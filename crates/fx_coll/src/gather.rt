@@ -1,7 +1,5 @@
-ghost use Rattle.std.specs.Prelude.{◌≡◌, ◌<◌, ◌≤◌, ◌↔◌, ℕ, replicate, length, Some, IfOk, IsTrue};
-ghost use Rattle.fx_coll.specs.declared.poll.CollPoll.{CollPoll};
-ghost use Rattle.fx_coll.specs.Keeping.{unknown, known_at, begun, gives, is_lost, has_left, folded, numbers};
-ghost use Rattle.fx_coll.specs.Keeping.{HoldsNumbers};
+ghost use Rattle.std.specs.Prelude.{◌≡◌, ◌<◌, ◌≤◌, ◌↔◌, ℕ, replicate, length, Some, IfOk};
+ghost use Rattle.fx_coll.specs.Keeping.{HoldsNumbers, unknown, known_at, begun, gives, is_lost, has_left, folded, numbers};
 ghost use Rattle.fx_coll.specs.Answer.{IsWhole, LostWithout, LeftWithout, IsLeast, Nobody, is_whole, least_lost, least_left, answer_of};
 ghost use Rattle.fx_walk.specs.Values.{combined, reduced_with};
 

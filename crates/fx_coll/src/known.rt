@@ -1,5 +1,5 @@
 ghost use Rattle.std.specs.Prelude.{◌≡◌};
-ghost use Rattle.fx_coll.specs.Keeping.{IsNumber, number_in};
+ghost use Rattle.fx_coll.specs.Keeping.{number_in};
 ghost use Rattle.fx_coll.specs.Answer.{is_lost_without, has_left_without};
 
 use crate::part::Part;
