@@ -40,3 +40,4 @@ pub mod Over
 pub mod Heights
 pub mod Rising
 pub mod Fair
+pub mod Ends
