@@ -89,6 +89,11 @@ module _ (s : Setup) (w : World) (z : ℕ → ballot.World) (fate : ℕ → Opti
       let rest : length b.before.who + suc d ≤ s.procs + 1 = few_members d b.before b.at in
       omega (arith, less, rest)
 
+  -- no more than all processes are members of an epoch
+  pub members_few : (d : ℕ) (x : Era) → era (first_era s) fate d ≡ Some x → length x.who ≤ s.procs
+  members_few zero x e = let all : length x.who ≡ s.procs = ap (λ (o : Era). length o.who) (some_era x (first_era s) (sym e)) ∙ length_all s.procs in omega (arith, all)
+  members_few (suc d) x e = let few = few_members d x e in omega (arith, few)
+
   -- there are at most as many epochs as processes, beside the first two
   pub epochs_few : (d : ℕ) (x : Era) → era (first_era s) fate d ≡ Some x → d ≤ s.procs + 1
   epochs_few zero x e = omega arith

@@ -50,7 +50,7 @@ passes_legally job ps p w few off is = record {
 abbrev none_yet : ℕ → Option (List Slot)
 none_yet d = None
 
-begins : (job : Job) → Legally job (kills_of (moments_of job)) (first_world (job_setup job))
+pub begins : (job : Job) → Legally job (kills_of (moments_of job)) (first_world (job_setup job))
 begins job = record {
   worlds = λ d. start;
   fate = none_yet;
@@ -83,7 +83,7 @@ begins job = record {
 
 -- ---- the law
 
-kept : (job : Job) → AsksNothing job → IsKeptAlong (job_setup job) (Legally job)
+pub kept : (job : Job) → AsksNothing job → IsKeptAlong (job_setup job) (Legally job)
 kept job asks = record {
   acts = λ ps p w act on e is. acts_legally job asks ps p w act on e is;
   hears = λ ps p q t rest w on e is. hears_legally job ps p q t rest w on e is;

@@ -37,3 +37,7 @@ pub mod Counts
 pub mod Stuck
 pub mod Still
 pub mod Over
+pub mod Heights
+pub mod Rising
+pub mod Fair
+pub mod Ends

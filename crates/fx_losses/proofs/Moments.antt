@@ -25,7 +25,7 @@ was_killed : (s : Setup) (p q : ℕ) (w : World) → may_learn s p q w ≡ true 
 was_killed s p q w e = grind (arith, nat_tests, e)
 
 module _ (s : Setup) (Is : List ℕ → World → Type 0) (k : IsKeptAlong s Is) (ps : List ℕ) where
-  step_keeps : (p : ℕ) (w : World) → Is ps w → Is ps (steps s p w)
+  pub step_keeps : (p : ℕ) (w : World) → Is ps w → Is ps (steps s p w)
   step_keeps p w is = chosen (Is ps) (up s w p) (does_if s p (next s (w.node p)) w) w (λ on. done (next s (w.node p)) refl on) (λ off. is)
     where
       done : (x : Option Act) → next s (w.node p) ≡ x → up s w p ≡ true → Is ps (does_if s p x w)
@@ -54,17 +54,17 @@ module _ (s : Setup) (Is : List ℕ → World → Type 0) (k : IsKeptAlong s Is)
   drain_keeps : (q p : ℕ) (w : World) → Attends q w → Attends q (drains q p w)
   drain_keeps q p w is = chosen (Attends q) (p == q) w (receives_all p q (w.link p q) w) (λ e. is) (λ e. all_attend p q (w.link p q) w refl is)
 
-  rest_keeps : (fuel p : ℕ) (w : World) → Is ps w → Is ps (rests s fuel p w)
+  pub rest_keeps : (fuel p : ℕ) (w : World) → Is ps w → Is ps (rests s fuel p w)
   rest_keeps fuel p w is = until_keeps (Is ps) (is_quiet s p) (steps s p) (λ x. step_keeps p x) fuel w is
 
-  attend_keeps : (q : ℕ) (w : World) → up s w q ≡ true → Is ps w → Is ps (attends s q w)
+  pub attend_keeps : (q : ℕ) (w : World) → up s w q ≡ true → Is ps w → Is ps (attends s q w)
   attend_keeps q w on is =
       rising_keep (Is ps) (λ p. notices s p q) (λ p x. notice_keeps p q x) s.procs _ (rising_keep (Attends q) (drains q) (λ p x. drain_keeps q p x) s.procs w (on, is)).1
 
-  turn_keeps : (fuel q : ℕ) (w : World) → Is ps w → Is ps (fair_turn s fuel q w)
+  pub turn_keeps : (fuel q : ℕ) (w : World) → Is ps w → Is ps (fair_turn s fuel q w)
   turn_keeps fuel q w is = chosen (Is ps) (up s w q) (rests s fuel q (attends s q w)) w (λ on. rest_keeps fuel q (attends s q w) (attend_keeps q w on is)) (λ off. is)
 
-  round_keeps : (fuel : ℕ) (w : World) → Is ps w → Is ps (fair_round s fuel w)
+  pub round_keeps : (fuel : ℕ) (w : World) → Is ps w → Is ps (fair_round s fuel w)
   round_keeps fuel w is = rising_keep (Is ps) (fair_turn s fuel) (λ q x. turn_keeps fuel q x) s.procs w is
 
 module _ (s : Setup) (Is : List ℕ → World → Type 0) (k : IsKeptAlong s Is) where
@@ -90,7 +90,7 @@ module _ (s : Setup) (Is : List ℕ → World → Type 0) (k : IsKeptAlong s Is)
   behind_front fuel [] more w few is = is
   behind_front fuel (m ∷ ms) more w few is = behind_front fuel ms more (happens s fuel m w) (fewer m (ms ++ more) few) (moment_keeps fuel m (ms ++ more) w few is)
 
-  moments_keep : (fuel : ℕ) (ms : List Moment) (w : World) → Each (λ p. p < s.procs) (kills_of ms) → Is (kills_of ms) w → Is [] (all_happen s fuel ms w)
+  pub moments_keep : (fuel : ℕ) (ms : List Moment) (w : World) → Each (λ p. p < s.procs) (kills_of ms) → Is (kills_of ms) w → Is [] (all_happen s fuel ms w)
   moments_keep fuel ms w few is =
       behind_front fuel ms [] w (subst (λ (l : List Moment). Each (λ p. p < s.procs) (kills_of l)) (sym (append_none ms)) few) (subst (λ (l : List Moment). Is (kills_of l) w) (sym (append_none ms)) is)
 

@@ -93,7 +93,7 @@ those_some f (suc n) m less e = elim (cases_eq m n) [
 -- ---- phases
 
 -- how far it is in the rounds
-abbrev place_of : Phase → ℕ
+abbrev pub place_of : Phase → ℕ
 place_of Outside = 0
 place_of Voting = 0
 place_of (Round r slots) = suc r

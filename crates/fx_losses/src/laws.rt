@@ -1,6 +1,6 @@
 //! Laws of runs with any events, kills and notices among them.
 
-ghost use Rattle.std.specs.Prelude.{◌≡◌, ◌++◌, ℕ, true, List};
+ghost use Rattle.std.specs.Prelude.{◌≡◌, ◌≤◌, ◌++◌, ℕ, true, List};
 ghost use Rattle.std.specs.List.{filter};
 ghost use Rattle.fx_script.specs.declared.job.Job.{Job};
 ghost use Rattle.fx_check.specs.Acceptance.{IsAccepted};
@@ -34,6 +34,16 @@ pub fn journals_show_all_ends()
 /// Each epoch of such a journal has its loss: before it is repaired, a process that had a place in the epoch before it was killed, from epoch 2 on.
 pub fn each_epoch_has_its_loss()
     ensures { (job : Job) → IsAccepted job → AsksNothing job → EachEpochHasItsLoss job (journal_of job) }
+{}
+
+/// Each process ends, whatever the events are: behind the tail each that wasn't killed has ended, and the journal shows an end or a kill of
+/// each. Any fuel of a rest but none is enough for that, and any bound from that of the job on.
+pub fn all_processes_end()
+    ensures over { (job : Job) → IsAccepted job → AsksNothing job
+        → all_over (job_setup job) (whole (job_setup job) (rest_bound_of job) (bound_of job) (moments_of job)) ≡ true }
+    ensures within { (job : Job) → IsAccepted job → AsksNothing job → (fuel : ℕ) → 1 ≤ fuel → (bound : ℕ) → bound_of job ≤ bound
+        → all_over (job_setup job) (whole (job_setup job) fuel bound (moments_of job)) ≡ true }
+    ensures shown { (job : Job) → IsAccepted job → AsksNothing job → AllHaveEnded job (journal_of job) }
 {}
 
 /// No processes wait for one another for ever: where nothing is under way in the world of such a run, all losses are told and no action
