@@ -20,13 +20,13 @@ use Rattle.fx_cli.specs.declared.status.Refusal.TheVariants.{NotBuilt, Text, Sta
 use Rattle.fx_cli.specs.declared.status.Status.{Status}
 use Rattle.fx_cli.specs.declared.status.Status.TheVariants.{Done, BadWords, BadJob, ReadFault, WriteFault, NoMemory, Unfinished}
 use Rattle.fx_cli.specs.Built.{first_unbuilt}
-use Rattle.fx_cli.specs.Dues.{longest_job, mode_of, Input, WrongWords, TooLong, Whole, IsInput, Due, input_in, input_of, due_to, due_to_reading, due_to_job, due_to_accepted, due_to_world, end_of, is_left_unfinished}
-use Rattle.fx_cli.specs.Ends.{Answered, Settles, Ends, Takes, IsWholeRun, IsUnfinishedRun, IsCheck, DoesWhatIsAsked, LeavesUnfinished, AsksRun, IsUnbuilt, IsGiven, IsUnlessCut, IsDoneUnlessCut, IsDoneOrUnfinished}
+use Rattle.fx_cli.specs.Dues.{longest_job, mode_of, Input, WrongWords, TooLong, Whole, IsInput, Due, input_in, input_of, due_to, due_to_reading, due_to_job, due_to_accepted, due_to_world, is_left_unfinished}
+use Rattle.fx_cli.specs.Ends.{Answered, Settles, Ends, Takes, IsWholeRun, IsRun, IsWired, IsCheck, DoesWhatIsAsked, AsksRun, IsUnbuilt, IsGiven, IsUnlessCut, IsDoneUnlessCut}
 use Rattle.fx_fleet.specs.Runs.{wire_of, journal_of}
 use Rattle.fx_world.specs.declared.shown.Shown.{Shown}
 use Rattle.fx_world.specs.declared.shown.Shown.TheVariants as shown
 use Rattle.fx_world.specs.Texts.{shown_text, text_of}
-use Rattle.fx_cli.proofs.Legality.{is_legal, has_losses, all_ended}
+use Rattle.fx_cli.proofs.Legality.{is_legal, has_losses, all_ended, is_over}
 use Rattle.fx_cli.proofs.Texts.{journal_text, wire_text}
 
 -- what came in, and what is due to it, written whole or in part
@@ -54,6 +54,30 @@ takes source source' text job is fine short read end = record {
 
 -- ---- runs
 
+-- a call is done, and the first holds, or it ends unfinished, and the second does, unless a fault or want of memory cut it short
+abbrev IsDoneOrUnfinished : (done unfinished : Type 0) → Status → Type 0
+IsDoneOrUnfinished done unfinished Done = done
+IsDoneOrUnfinished done unfinished BadWords = ⊥
+IsDoneOrUnfinished done unfinished (BadJob refusal spot) = ⊥
+IsDoneOrUnfinished done unfinished ReadFault = Unit {0}
+IsDoneOrUnfinished done unfinished WriteFault = Unit {0}
+IsDoneOrUnfinished done unfinished NoMemory = Unit {0}
+IsDoneOrUnfinished done unfinished Unfinished = unfinished
+
+-- a run whose tail wasn't enough
+record IsUnfinishedRun (job : Job) (items : List Item) (sink sink' : SinkState) : Type 0 where
+  writable : IsWritable job
+  accepted : IsAccepted job
+  built : first_unbuilt job ≡ None
+  unfinished : is_left_unfinished job ≡ true
+
+-- there is none
+none_unfinished : (job : Job) (items : List Item) (sink sink' : SinkState) → IsUnfinishedRun job items sink sink' → ⊥
+none_unfinished job items sink sink' run = apart (sym run.unfinished ∙ is_over job run.writable run.accepted run.built)
+  where
+    apart : true ≡ false → ⊥
+    apart e = cc
+
 -- how a run ends, by whether it is left unfinished
 abbrev end_by : Bool → Status
 end_by b = if b then Unfinished else Done
@@ -65,18 +89,17 @@ RunEnds job items sink sink' s = IsDoneOrUnfinished (IsWholeRun job items sink s
 run_ends : (job : Job) (items : List Item) (sink sink' : SinkState) (b : Bool) → IsWritable job → IsAccepted job → first_unbuilt job ≡ None → is_left_unfinished job ≡ b →
     Gains sink.written sink'.written (text_of items) → RunEnds job items sink sink' (end_by b)
 run_ends job items sink sink' true writable accepted built over gained = record {
+  writable = writable;
+  accepted = accepted;
   built = built;
-  legal = is_legal job writable accepted built;
-  losses = has_losses job writable accepted built;
   unfinished = over;
-  gained = gained;
 }
 run_ends job items sink sink' false writable accepted built over gained = record {
   built = built;
   legal = is_legal job writable accepted built;
   losses = has_losses job writable accepted built;
   over = over;
-  ended = all_ended job writable accepted built over;
+  ended = all_ended job writable accepted built;
   gained = gained;
 }
 
@@ -84,6 +107,13 @@ gains_same : (a b : Option (List ℕ)) (text other : List ℕ) → text ≡ othe
 gains_same a b text other same gains = subst (λ (t : List ℕ). Gains a b t) same gains
 
 -- ---- what is done, and what is left unfinished
+
+-- a call that ends unfinished has taken a job, and its words ask for a run, whose tail wasn't enough
+abbrev LeavesUnfinished : Option Mode → SourceState → SourceState → SinkState → SinkState → Type 0
+LeavesUnfinished None source source' sink sink' = ⊥
+LeavesUnfinished (Some mode.Run) source source' sink sink' = (job : Job) × Takes source source' job × IsUnfinishedRun job (journal_of job) sink sink'
+LeavesUnfinished (Some mode.Wire) source source' sink sink' = (job : Job) × Takes source source' job × IsUnfinishedRun job (wire_of job) sink sink'
+LeavesUnfinished (Some mode.Check) source source' sink sink' = ⊥
 
 -- what the words asked for, by the status
 abbrev EndsAs : Option Mode → SourceState → SourceState → SinkState → SinkState → Status → Type 0
@@ -179,7 +209,7 @@ is_done words source source' sink sink' NoMemory e is = absurd cc
 is_done words source source' sink sink' Unfinished e is = absurd cc
 
 -- a call that ends unfinished was asked for a run, whose tail wasn't enough
-pub is_unfinished : (words : List (List ℕ)) (source source' : SourceState) (sink sink' : SinkState) (s : Status) →
+is_unfinished : (words : List (List ℕ)) (source source' : SourceState) (sink sink' : SinkState) (s : Status) →
     Ends words source source' sink sink' s → s ≡ Unfinished → LeavesUnfinished (mode_of words) source source' sink sink'
 is_unfinished words source source' sink sink' Done e is = absurd cc
 is_unfinished words source source' sink sink' BadWords e is = absurd cc
@@ -188,6 +218,17 @@ is_unfinished words source source' sink sink' ReadFault e is = absurd cc
 is_unfinished words source source' sink sink' WriteFault e is = absurd cc
 is_unfinished words source source' sink sink' NoMemory e is = absurd cc
 is_unfinished words source source' sink sink' Unfinished e is = input_done words source source' sink sink' Unfinished e.0 e.1 e.2 e.3
+
+-- so no call does
+none_left : (asked : Option Mode) (source source' : SourceState) (sink sink' : SinkState) → LeavesUnfinished asked source source' sink sink' → ⊥
+none_left None source source' sink sink' left = left
+none_left (Some mode.Run) source source' sink sink' left = none_unfinished left.0 (journal_of left.0) sink sink' left.2
+none_left (Some mode.Wire) source source' sink sink' left = none_unfinished left.0 (wire_of left.0) sink sink' left.2
+none_left (Some mode.Check) source source' sink sink' left = left
+
+pub never_unfinished : (words : List (List ℕ)) (source source' : SourceState) (sink sink' : SinkState) (s : Status) →
+    Ends words source source' sink sink' s → s ≡ Unfinished → ⊥
+never_unfinished words source source' sink sink' s e is = none_left (mode_of words) source source' sink sink' (is_unfinished words source source' sink sink' s e is)
 
 -- a job that is refused since a line of it isn't built yet
 never_refused : (b : Bool) (refusal : Reason) (spot : Spot) → BadJob refusal spot ≡ end_by b → ⊥
@@ -348,30 +389,25 @@ ran asked shown items words source source' sink sink' WriteFault job text accept
 ran asked shown items words source source' sink sink' NoMemory job text accepted e given built = tt
 ran asked shown items words source source' sink sink' Unfinished job text accepted e given built = answered_ran asked shown items words source source' sink sink' Unfinished job text accepted e given built
 
+-- and is done, since its tail is enough
+done_for : (job : Job) (items : List Item) (sink sink' : SinkState) (s : Status) → RunEnds job items sink sink' s → IsDoneUnlessCut (IsWholeRun job items sink sink') s
+done_for job items sink sink' Done run = run
+done_for job items sink sink' BadWords run = run
+done_for job items sink sink' (BadJob refusal spot) run = run
+done_for job items sink sink' ReadFault run = tt
+done_for job items sink sink' WriteFault run = tt
+done_for job items sink sink' NoMemory run = tt
+done_for job items sink sink' Unfinished run = none_unfinished job items sink sink' run
+
 pub is_ran : (words : List (List ℕ)) (source source' : SourceState) (sink sink' : SinkState) (s : Status) → Ends words source source' sink sink' s →
-    (job : Job) → IsGiven mode.Run words source job → first_unbuilt job ≡ None → RunEnds job (journal_of job) sink sink' s
+    (job : Job) → IsGiven mode.Run words source job → first_unbuilt job ≡ None → IsDoneUnlessCut (IsRun job sink sink') s
 is_ran words source source' sink sink' s e job given built =
-    ran mode.Run shown.Journal (journal_of job) words source source' sink sink' s job (journal_text job) refl e given built
+    done_for job (journal_of job) sink sink' s (ran mode.Run shown.Journal (journal_of job) words source source' sink sink' s job (journal_text job) refl e given built)
 
 pub is_wired : (words : List (List ℕ)) (source source' : SourceState) (sink sink' : SinkState) (s : Status) → Ends words source source' sink sink' s →
-    (job : Job) → IsGiven mode.Wire words source job → first_unbuilt job ≡ None → RunEnds job (wire_of job) sink sink' s
+    (job : Job) → IsGiven mode.Wire words source job → first_unbuilt job ≡ None → IsDoneUnlessCut (IsWired job sink sink') s
 is_wired words source source' sink sink' s e job given built =
-    ran mode.Wire shown.Wire (wire_of job) words source source' sink sink' s job (wire_text job) refl e given built
-
--- a run ends unfinished where that is due
-run_due : (asked : Mode) (job : Job) → AsksRun (Some asked) → first_unbuilt job ≡ None → (due_to_accepted asked job).status ≡ end_of job
-run_due mode.Run job runs built = ap (λ (o : Option Spot). (due_to_world shown.Journal job o).status) built
-run_due mode.Wire job runs built = ap (λ (o : Option Spot). (due_to_world shown.Wire job o).status) built
-run_due mode.Check job runs built = absurd (no_run runs)
-  where
-    no_run : AsksRun (Some mode.Check) → ⊥
-    no_run runs = elim runs as (λ _. ⊥) [ inl e ↦ absurd cc | inr e ↦ absurd cc ]
-
-pub ends_as_due : (words : List (List ℕ)) (source source' : SourceState) (sink sink' : SinkState) (s : Status) → Ends words source source' sink sink' s →
-    (job : Job) (asked : Mode) → AsksRun (Some asked) → IsGiven asked words source job → first_unbuilt job ≡ None → IsUnlessCut (end_of job) s
-ends_as_due words source source' sink sink' s e job asked runs given built =
-    subst (λ (d : Status). IsUnlessCut d s) (ap (λ (d : Due). d.status) (given_due asked words source job given) ∙ run_due asked job runs built)
-    (is_due words source source' sink sink' s e given.text given.told)
+    done_for job (wire_of job) sink sink' s (ran mode.Wire shown.Wire (wire_of job) words source source' sink sink' s job (wire_text job) refl e given built)
 
 -- a job that is given is printed
 pub is_printed : (words : List (List ℕ)) (source source' : SourceState) (sink sink' : SinkState) (s : Status) → Ends words source source' sink sink' s →

@@ -89,15 +89,6 @@ IsRun job sink sink' = IsWholeRun job (journal_of job) sink sink'
 abbrev pub IsWired : Job → SinkState → SinkState → Type 0
 IsWired job sink sink' = IsWholeRun job (wire_of job) sink sink'
 
--- a run of a job whose tail wasn't enough: its journal is legal and each epoch in it has its loss all the same, and exactly the text of
--- these items was written
-pub record IsUnfinishedRun (job : Job) (items : List Item) (sink sink' : SinkState) : Type 0 where
-  pub built : first_unbuilt job ≡ None
-  pub legal : IsLegalWhole job (journal_of job)
-  pub losses : EachEpochHasItsLoss job (journal_of job)
-  pub unfinished : is_left_unfinished job ≡ true
-  pub gained : Gains sink.written sink'.written (text_of items)
-
 -- the check of a job: exactly its canonical text was written, which spells it and, spots aside, no other job
 pub record IsCheck (job : Job) (sink sink' : SinkState) : Type 0 where
   pub alone : SpellsAlone (canonical job) job
@@ -109,13 +100,6 @@ DoesWhatIsAsked None source source' sink sink' = ⊥
 DoesWhatIsAsked (Some mode.Run) source source' sink sink' = (job : Job) × Takes source source' job × IsRun job sink sink'
 DoesWhatIsAsked (Some mode.Wire) source source' sink sink' = (job : Job) × Takes source source' job × IsWired job sink sink'
 DoesWhatIsAsked (Some mode.Check) source source' sink sink' = (job : Job) × Takes source source' job × IsCheck job sink sink'
-
--- a call that ends unfinished has taken a job, and its words ask for a run, whose tail wasn't enough
-abbrev pub LeavesUnfinished : Option Mode → SourceState → SourceState → SinkState → SinkState → Type 0
-LeavesUnfinished None source source' sink sink' = ⊥
-LeavesUnfinished (Some mode.Run) source source' sink sink' = (job : Job) × Takes source source' job × IsUnfinishedRun job (journal_of job) sink sink'
-LeavesUnfinished (Some mode.Wire) source source' sink sink' = (job : Job) × Takes source source' job × IsUnfinishedRun job (wire_of job) sink sink'
-LeavesUnfinished (Some mode.Check) source source' sink sink' = ⊥
 
 -- the words ask for a run, with the journal or with all that happens
 abbrev pub AsksRun : Option Mode → Type 0
@@ -158,16 +142,6 @@ IsDoneUnlessCut fact ReadFault = Unit {0}
 IsDoneUnlessCut fact WriteFault = Unit {0}
 IsDoneUnlessCut fact NoMemory = Unit {0}
 IsDoneUnlessCut fact Unfinished = ⊥
-
--- a call is done, and the first holds, or it ends unfinished, and the second does, unless a fault or want of memory cut it short
-abbrev pub IsDoneOrUnfinished : (done unfinished : Type 0) → Status → Type 0
-IsDoneOrUnfinished done unfinished Done = done
-IsDoneOrUnfinished done unfinished BadWords = ⊥
-IsDoneOrUnfinished done unfinished (BadJob refusal spot) = ⊥
-IsDoneOrUnfinished done unfinished ReadFault = Unit {0}
-IsDoneOrUnfinished done unfinished WriteFault = Unit {0}
-IsDoneOrUnfinished done unfinished NoMemory = Unit {0}
-IsDoneOrUnfinished done unfinished Unfinished = unfinished
 
 -- the status of a call that has written what is due, or was cut short
 abbrev pub settled : Result (Unit {0}) PutEnd → Status → Status

@@ -11,10 +11,11 @@ ghost use Rattle.fx_cli.specs.Built.{first_unbuilt};
 ghost use Rattle.fx_cli.specs.Dues.{is_left_unfinished};
 
 /// The journal of each accepted job that can be written and run is legal and tells its whole schedule, kills and notices among
-/// the events or not. Each epoch in it has its loss: from epoch 2 on, a place of the epoch before was killed before. Where the
-/// tail is enough, each process ends or is killed in it.
+/// the events or not. Each epoch in it has its loss: from epoch 2 on, a place of the epoch before was killed before. The tail
+/// is enough: each process ends or is killed in it.
 pub fn journals_are_legal()
     ensures legal { (job : Job) → IsWritable job → IsAccepted job → first_unbuilt job ≡ None → IsLegalWhole job (journal_of job) }
     ensures losses { (job : Job) → IsWritable job → IsAccepted job → first_unbuilt job ≡ None → EachEpochHasItsLoss job (journal_of job) }
-    ensures whole { (job : Job) → IsWritable job → IsAccepted job → first_unbuilt job ≡ None → is_left_unfinished job ≡ false → AllHaveEnded job (journal_of job) }
+    ensures over { (job : Job) → IsWritable job → IsAccepted job → first_unbuilt job ≡ None → is_left_unfinished job ≡ false }
+    ensures whole { (job : Job) → IsWritable job → IsAccepted job → first_unbuilt job ≡ None → AllHaveEnded job (journal_of job) }
 {}

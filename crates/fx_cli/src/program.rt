@@ -1,13 +1,12 @@
 ghost use Rattle.std.specs.Prelude.{◌≡◌, ◌≤◌, ℕ, List, IfOk, None, Ok, Some, length, map, string_bytes};
-ghost use Rattle.fx_fleet.specs.Runs.{journal_of, wire_of};
 ghost use Rattle.fx_io.specs.Faults.{Rose};
 ghost use Rattle.fx_check.specs.Acceptance.{refusal_of};
 ghost use Rattle.fx_script.specs.Canonical.{HasText};
 ghost use Rattle.fx_script.specs.Reading.{job_in};
 ghost use Rattle.fx_cli.specs.Answers.{refusal_line};
 ghost use Rattle.fx_cli.specs.Built.{first_unbuilt};
-ghost use Rattle.fx_cli.specs.Dues.{WrongWords, due_refusal, due_to, due_to_accepted, due_to_job, due_to_reading, due_to_world, end_of, input_of, longest_job, mode_of};
-ghost use Rattle.fx_cli.specs.Ends.{AsksRun, DoesWhatIsAsked, Ends, IsCheck, IsDoneOrUnfinished, IsDoneUnlessCut, IsGiven, IsRun, IsUnbuilt, IsUnfinishedRun, IsUnlessCut, IsWired, LeavesUnfinished, Settles, settled, status_of_run};
+ghost use Rattle.fx_cli.specs.Dues.{WrongWords, due_refusal, due_to, due_to_accepted, due_to_job, due_to_reading, due_to_world, input_of, longest_job, mode_of};
+ghost use Rattle.fx_cli.specs.Ends.{DoesWhatIsAsked, Ends, IsCheck, IsDoneUnlessCut, IsGiven, IsRun, IsUnbuilt, IsUnlessCut, IsWired, Settles, settled, status_of_run};
 
 use crate::built::first_unbuilt;
 use crate::canon::write_canonical;
@@ -43,24 +42,21 @@ pub fn fenix<S: Source, K: Sink>(
     // tells the whole schedule, each epoch in it has its loss, each process ends or is killed in it, and exactly the text of its
     // journal was written, or of all that happens; in mode check its canonical text was.
     ensures done { result ≡ Status.Done → DoesWhatIsAsked (mode_of (map string_bytes words.now)) (S.state source.old) (S.state source.new) (K.state sink.old) (K.state sink.new) }
-    // Unfinished: in modes run and wire alone, the tail of an accepted job's run wasn't enough, its journal is legal and each epoch
-    // in it has its loss all the same, and all of the text was written.
-    ensures unfinished { result ≡ Status.Unfinished → LeavesUnfinished (mode_of (map string_bytes words.now)) (S.state source.old) (S.state source.new) (K.state sink.old) (K.state sink.new) }
+    // No run is left unfinished: the rounds behind the schedule are enough for each process to end.
+    ensures never_unfinished { result ≡ Status.Unfinished → ⊥ }
     // Not built: in modes run and wire alone, and the source held a text of an accepted job. The first line that can't be run is
     // there, and it is a line of the body.
     ensures not_built_is_accepted { (spot : Spot) → result ≡ Status.BadJob Refusal.NotBuilt spot → IsUnbuilt (map string_bytes words.now) (S.state source.old) (S.state source.new) spot }
     // Where the source tells what it holds, that and the words fix the status, unless a fault or want of memory cuts the call short.
     ensures status_is_due { (held : List ℕ) → (S.state source.old).left ≡ Some held → IsUnlessCut (due_to (input_of (map string_bytes words.now) held)).status result }
     // The source tells a text that spells an accepted job, each line of its body can be run, and the words ask for its run,
-    // whatever its events are: the call is done, or unfinished where the tail isn't enough, unless it is cut short. Exactly the
-    // text of the job's journal was written, which is legal, and each epoch in it has its loss.
-    ensures jobs_are_run { (job : Job) → IsGiven Mode.Run (map string_bytes words.now) (S.state source.old) job → first_unbuilt job ≡ None → IsDoneOrUnfinished (IsRun job (K.state sink.old) (K.state sink.new)) (IsUnfinishedRun job (journal_of job) (K.state sink.old) (K.state sink.new)) result }
+    // whatever its events are: the call is done, unless it is cut short. Exactly the text of the job's journal was written,
+    // which is legal; each epoch in it has its loss, and each process ends or is killed in it.
+    ensures jobs_are_run { (job : Job) → IsGiven Mode.Run (map string_bytes words.now) (S.state source.old) job → first_unbuilt job ≡ None → IsDoneUnlessCut (IsRun job (K.state sink.old) (K.state sink.new)) result }
     // The same with the word wire: exactly the text of all that happens was written.
-    ensures jobs_are_wired { (job : Job) → IsGiven Mode.Wire (map string_bytes words.now) (S.state source.old) job → first_unbuilt job ≡ None → IsDoneOrUnfinished (IsWired job (K.state sink.old) (K.state sink.new)) (IsUnfinishedRun job (wire_of job) (K.state sink.old) (K.state sink.new)) result }
+    ensures jobs_are_wired { (job : Job) → IsGiven Mode.Wire (map string_bytes words.now) (S.state source.old) job → first_unbuilt job ≡ None → IsDoneUnlessCut (IsWired job (K.state sink.old) (K.state sink.new)) result }
     // The same with the word check: exactly the canonical text of the job was written.
     ensures accepted_jobs_are_printed { (job : Job) → IsGiven Mode.Check (map string_bytes words.now) (S.state source.old) job → IsDoneUnlessCut (IsCheck job (K.state sink.old) (K.state sink.new)) result }
-    // With the words run and wire the call is unfinished exactly where the tail isn't enough, unless it is cut short.
-    ensures unfinished_where_due { (job : Job) (asked : Mode) → AsksRun (Some asked) → IsGiven asked (map string_bytes words.now) (S.state source.old) job → first_unbuilt job ≡ None → IsUnlessCut (end_of job) result }
     ensures read_fault_only_if_count_rose { result ≡ Status.ReadFault → Rose (S.state source.old).faults (S.state source.new).faults }
     ensures write_fault_only_if_count_rose { result ≡ Status.WriteFault → Rose (K.state sink.old).faults (K.state sink.new).faults }
     ensures source_count_never_falls { (S.state source.old).faults ≤ (S.state source.new).faults }

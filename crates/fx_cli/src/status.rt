@@ -33,7 +33,7 @@ pub enum Status {
     WriteFault,
     /// Memory ran out, and a front of what was due was written.
     NoMemory,
-    /// All was written, and the rounds behind the schedule were over before each living process had ended.
+    /// All was written, and the rounds behind the schedule were over before each living process had ended. No job comes to it.
     Unfinished,
 }
 

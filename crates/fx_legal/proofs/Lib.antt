@@ -6,3 +6,4 @@ mod CallRows
 mod GroupRows
 mod DataRows
 mod EpochRows
+mod LossRows

@@ -33,6 +33,7 @@ pub mod Legality
 pub mod Accepted
 pub mod Sizes
 pub mod Row
+mod SingleRows
 pub mod Counts
 pub mod Stuck
 pub mod Still

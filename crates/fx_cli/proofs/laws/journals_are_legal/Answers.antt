@@ -1,4 +1,4 @@
-use Rattle.fx_cli.proofs.Legality.{is_legal, has_losses, all_ended}
+use Rattle.fx_cli.proofs.Legality.{is_legal, has_losses, all_ended, is_over}
 use Rattle.fx_cli.proofs.laws.journals_are_legal.Goals as goal
 
 pub returns-clause-legal : goal.returns-clause-legal
@@ -6,6 +6,9 @@ returns-clause-legal c = is_legal
 
 pub returns-clause-losses : goal.returns-clause-losses
 returns-clause-losses c = has_losses
+
+pub returns-clause-over : goal.returns-clause-over
+returns-clause-over c = is_over
 
 pub returns-clause-whole : goal.returns-clause-whole
 returns-clause-whole c = all_ended

@@ -1,5 +1,5 @@
 use Rattle.std.proofs.Common.{map, string_bytes}
-use Rattle.fx_cli.proofs.Ending.{is_done, is_unfinished, is_unbuilt, is_due, is_ran, is_wired, ends_as_due, is_printed}
+use Rattle.fx_cli.proofs.Ending.{is_done, never_unfinished, is_unbuilt, is_due, is_ran, is_wired, is_printed}
 use Rattle.fx_cli.proofs.program.fenix.Goals as goal
 
 pub returns-clause-done : goal.returns-clause-done
@@ -27,17 +27,12 @@ returns-clause-accepted_jobs_are_printed g c =
     is_printed (map string_bytes c.args.words.now) (g.S.Source.state c.args.source.now) (g.S.Source.state c.call.new.source)
     (g.K.Sink.state c.args.sink.now) (g.K.Sink.state c.call.new.sink) c.call.result c.call.ensures.ends
 
-pub returns-clause-unfinished : goal.returns-clause-unfinished
-returns-clause-unfinished g c =
-    is_unfinished (map string_bytes c.args.words.now) (g.S.Source.state c.args.source.now) (g.S.Source.state c.call.new.source)
+pub returns-clause-never_unfinished : goal.returns-clause-never_unfinished
+returns-clause-never_unfinished g c =
+    never_unfinished (map string_bytes c.args.words.now) (g.S.Source.state c.args.source.now) (g.S.Source.state c.call.new.source)
     (g.K.Sink.state c.args.sink.now) (g.K.Sink.state c.call.new.sink) c.call.result c.call.ensures.ends
 
 pub returns-clause-jobs_are_wired : goal.returns-clause-jobs_are_wired
 returns-clause-jobs_are_wired g c =
     is_wired (map string_bytes c.args.words.now) (g.S.Source.state c.args.source.now) (g.S.Source.state c.call.new.source)
-    (g.K.Sink.state c.args.sink.now) (g.K.Sink.state c.call.new.sink) c.call.result c.call.ensures.ends
-
-pub returns-clause-unfinished_where_due : goal.returns-clause-unfinished_where_due
-returns-clause-unfinished_where_due g c =
-    ends_as_due (map string_bytes c.args.words.now) (g.S.Source.state c.args.source.now) (g.S.Source.state c.call.new.source)
     (g.K.Sink.state c.args.sink.now) (g.K.Sink.state c.call.new.sink) c.call.result c.call.ensures.ends
