@@ -41,3 +41,4 @@ pub mod Heights
 pub mod Rising
 pub mod Fair
 pub mod Ends
+pub mod Rests
