@@ -11,7 +11,7 @@ use Rattle.fx_script.specs.Spelling.{IsWritable}
 use Rattle.fx_script.proofs.CanonAlone.{canonical_alone}
 use Rattle.fx_script.proofs.Spelled.{is_read, job_found}
 use Rattle.fx_item.specs.declared.item.Item.{Item}
-use Rattle.fx_check.specs.Acceptance.{Refused, refusal_of}
+use Rattle.fx_check.specs.Acceptance.{IsAccepted, Refused, refusal_of}
 use Rattle.fx_check.proofs.Accepting.{accepted_if_none, none_if_accepted}
 use Rattle.fx_cli.specs.declared.mode.Mode.{Mode}
 use Rattle.fx_cli.specs.declared.mode.Mode.TheVariants as mode
@@ -26,7 +26,7 @@ use Rattle.fx_fleet.specs.Runs.{wire_of, journal_of}
 use Rattle.fx_world.specs.declared.shown.Shown.{Shown}
 use Rattle.fx_world.specs.declared.shown.Shown.TheVariants as shown
 use Rattle.fx_world.specs.Texts.{shown_text, text_of}
-use Rattle.fx_cli.proofs.Legality.{is_legal, all_ended}
+use Rattle.fx_cli.proofs.Legality.{is_legal, has_losses, all_ended}
 use Rattle.fx_cli.proofs.Texts.{journal_text, wire_text}
 
 -- what came in, and what is due to it, written whole or in part
@@ -62,12 +62,23 @@ abbrev RunEnds : Job → List Item → SinkState → SinkState → Status → Ty
 RunEnds job items sink sink' s = IsDoneOrUnfinished (IsWholeRun job items sink sink') (IsUnfinishedRun job items sink sink') s
 
 -- a run whose text was written ends so
-run_ends : (job : Job) (items : List Item) (sink sink' : SinkState) (b : Bool) → IsWritable job → first_unbuilt job ≡ None → is_left_unfinished job ≡ b →
+run_ends : (job : Job) (items : List Item) (sink sink' : SinkState) (b : Bool) → IsWritable job → IsAccepted job → first_unbuilt job ≡ None → is_left_unfinished job ≡ b →
     Gains sink.written sink'.written (text_of items) → RunEnds job items sink sink' (end_by b)
-run_ends job items sink sink' true writable built over gained =
-    record { built = built; legal = is_legal job writable built; unfinished = over; gained = gained }
-run_ends job items sink sink' false writable built over gained =
-    record { built = built; legal = is_legal job writable built; over = over; ended = all_ended job writable built over; gained = gained }
+run_ends job items sink sink' true writable accepted built over gained = record {
+  built = built;
+  legal = is_legal job writable accepted built;
+  losses = has_losses job writable accepted built;
+  unfinished = over;
+  gained = gained;
+}
+run_ends job items sink sink' false writable accepted built over gained = record {
+  built = built;
+  legal = is_legal job writable accepted built;
+  losses = has_losses job writable accepted built;
+  over = over;
+  ended = all_ended job writable accepted built over;
+  gained = gained;
+}
 
 gains_same : (a b : Option (List ℕ)) (text other : List ℕ) → text ≡ other → Gains a b text → Gains a b other
 gains_same a b text other same gains = subst (λ (t : List ℕ). Gains a b t) same gains
@@ -105,7 +116,7 @@ run_done : (source source' : SourceState) (sink sink' : SinkState) (s : Status) 
 run_done source source' sink sink' s job None taken built ends gained =
     subst (EndsAs (Some mode.Run) source source' sink sink') (sym ends)
     (run_taken source source' sink sink' job (is_left_unfinished job) taken
-    (run_ends job (journal_of job) sink sink' (is_left_unfinished job) taken.spelled.writable built refl (gains_same _ _ _ _ (journal_text job) gained)))
+    (run_ends job (journal_of job) sink sink' (is_left_unfinished job) taken.spelled.writable taken.accepted built refl (gains_same _ _ _ _ (journal_text job) gained)))
 run_done source source' sink sink' s job (Some spot) taken built ends gained = ends_refused (Some mode.Run) source source' sink sink' s NotBuilt spot ends
 
 wire_done : (source source' : SourceState) (sink sink' : SinkState) (s : Status) (job : Job) (o : Option Spot) → Takes source source' job → first_unbuilt job ≡ o →
@@ -114,7 +125,7 @@ wire_done : (source source' : SourceState) (sink sink' : SinkState) (s : Status)
 wire_done source source' sink sink' s job None taken built ends gained =
     subst (EndsAs (Some mode.Wire) source source' sink sink') (sym ends)
     (wire_taken source source' sink sink' job (is_left_unfinished job) taken
-    (run_ends job (wire_of job) sink sink' (is_left_unfinished job) taken.spelled.writable built refl (gains_same _ _ _ _ (wire_text job) gained)))
+    (run_ends job (wire_of job) sink sink' (is_left_unfinished job) taken.spelled.writable taken.accepted built refl (gains_same _ _ _ _ (wire_text job) gained)))
 wire_done source source' sink sink' s job (Some spot) taken built ends gained = ends_refused (Some mode.Wire) source source' sink sink' s NotBuilt spot ends
 
 check_done : (source source' : SourceState) (sink sink' : SinkState) (s : Status) (job : Job) → Takes source source' job → s ≡ Done →
@@ -322,7 +333,7 @@ answered_ran : (asked : Mode) (shown : Shown) (items : List Item) (words : List 
 answered_ran asked shown items words source source' sink sink' s job text accepted e given built =
     let due = given_is asked words source source' job given e.0 e.1 ∙ accepted ∙ ap (due_to_world shown job) built in
     subst (RunEnds job items sink sink') (sym (other_status _ _ _ _ due e.2 refl))
-    (run_ends job items sink sink' (is_left_unfinished job) given.spelled.writable built refl
+    (run_ends job items sink sink' (is_left_unfinished job) given.spelled.writable given.accepted built refl
     (gains_same _ _ _ _ text (subst (λ (d : Due). Gains sink.written sink'.written d.output) due e.3)))
 
 ran : (asked : Mode) (shown : Shown) (items : List Item) (words : List (List ℕ)) (source source' : SourceState) (sink sink' : SinkState) (s : Status) (job : Job) →

@@ -1,10 +1,7 @@
--- A job whose lines can all be run: its body asks nothing, and nobody is killed in its schedule.
+-- The body of a job whose lines can all be run asks nothing.
 use Rattle.std.proofs.Common.{◌≡◌, Bool, true, false, if◌then◌else◌, List, [], ◌∷◌, ◌++◌, map, Option, Some, None, refl, sym, subst}
 use Rattle.std.specs.List.{list_all}
 use Rattle.fx_base.specs.declared.spot.Spot.{Spot}
-use Rattle.fx_script.specs.declared.job.Event.{Event}
-use Rattle.fx_script.specs.declared.job.EventKind.{EventKind}
-use Rattle.fx_script.specs.declared.job.EventKind.TheVariants as event
 use Rattle.fx_script.specs.declared.job.Job.{Job}
 use Rattle.fx_script.specs.declared.job.Stmt.{Stmt}
 use Rattle.fx_script.specs.declared.job.Stmt.TheOpen.{Stmt-F}
@@ -12,10 +9,9 @@ use Rattle.fx_script.specs.declared.job.Stmt.TheViews.{roll-Stmt}
 use Rattle.fx_script.specs.declared.job.Stmt.TheFolds.{fold-roll-Stmt, map-Stmt, ind-Stmt}
 use Rattle.fx_script.specs.Spelling.{IsWritable, chained}
 use Rattle.fx_walk.specs.Lengths.{all_true, plain_level, is_plain}
-use Rattle.fx_fleet.specs.Runs.{AsksNothing, moment_of, moments_of}
-use Rattle.fx_calm.specs.Calm.{is_calm}
+use Rattle.fx_fleet.specs.Runs.{AsksNothing}
 use Rattle.fx_calm.proofs.Legality.{plain_asks_nothing}
-use Rattle.fx_cli.specs.Built.{Mark, first_in, stmt_marks_level, stmt_marks, body_marks, is_built_event, event_mark, first_unbuilt}
+use Rattle.fx_cli.specs.Built.{Mark, first_in, stmt_marks_level, stmt_marks, body_marks, first_unbuilt}
 
 -- a first line that can be run, and no other that can't
 built_first : (built : Bool) (spot : Spot) (later : Option Spot) → (if built then later else Some spot) ≡ None → (built ≡ true) × (later ≡ None)
@@ -81,24 +77,5 @@ plain_body (s ∷ body) built =
 
 -- ---- jobs
 
-calm_kind : (kind : EventKind) → is_built_event kind ≡ true → is_calm (moment_of kind) ≡ true
-calm_kind (event.Step p) built = refl
-calm_kind (event.Rest p) built = refl
-calm_kind (event.Deliver p q) built = refl
-calm_kind (event.Kill p) built = absurd cc
-calm_kind (event.Notice p q) built = absurd cc
-calm_kind (event.Run count) built = refl
-
-calm_events : (events : List Event) → first_in (map event_mark events) ≡ None → list_all is_calm (map (λ e. moment_of e.kind) events) ≡ true
-calm_events [] built = refl
-calm_events (e ∷ events) built =
-    let first = built_first (is_built_event e.kind) e.spot (first_in (map event_mark events)) built in
-    rw (calm_kind e.kind first.0, calm_events events first.1) refl
-
--- its body asks nothing
 pub asks_nothing : (job : Job) → IsWritable job → first_unbuilt job ≡ None → AsksNothing job
-asks_nothing job writable built = plain_asks_nothing job writable (plain_body job.body (both_built (body_marks job.body) (map event_mark job.events) built).0)
-
--- nobody is killed in its schedule
-pub calm_schedule : (job : Job) → first_unbuilt job ≡ None → list_all is_calm (moments_of job) ≡ true
-calm_schedule job built = calm_events job.events (both_built (body_marks job.body) (map event_mark job.events) built).1
+asks_nothing job writable built = plain_asks_nothing job writable (plain_body job.body built)

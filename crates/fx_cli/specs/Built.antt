@@ -2,9 +2,6 @@
 use Rattle.std.specs.Prelude.{◌≡◌, pos, Bool, true, false, if◌then◌else◌, List, [], ◌∷◌, ◌++◌, map, codes, Option, Some, None, refl}
 use Rattle.fx_base.specs.declared.spot.Spot.{Spot}
 use Rattle.fx_check.specs.Facts.{in_other}
-use Rattle.fx_script.specs.declared.job.Event.{Event}
-use Rattle.fx_script.specs.declared.job.EventKind.{EventKind}
-use Rattle.fx_script.specs.declared.job.EventKind.TheVariants as event
 use Rattle.fx_script.specs.declared.job.Job.{Job}
 use Rattle.fx_script.specs.declared.job.Stmt.{Stmt}
 use Rattle.fx_script.specs.declared.job.Stmt.TheOpen.{Stmt-F}
@@ -12,7 +9,7 @@ use Rattle.fx_script.specs.declared.job.Stmt.TheFolds.{fold-Stmt}
 use Rattle.fx_script.specs.Spelling.{chained}
 use Rattle.fx_script.specs.Spots.{spot_level}
 
--- a line of a job: its place, and whether what it says can be run
+-- a line of a body: its place, and whether what it says can be run
 pub record Mark : Type 0 where
   pub spot : Spot
   pub built : Bool
@@ -54,32 +51,11 @@ stmt_marks = fold-Stmt (List Mark) stmt_marks_level
 abbrev pub body_marks : List Stmt → List Mark
 body_marks body = chained (map stmt_marks body)
 
--- an event can be run in which nobody is lost
-abbrev pub is_built_event : EventKind → Bool
-is_built_event (event.Step p) = true
-is_built_event (event.Rest p) = true
-is_built_event (event.Deliver p q) = true
-is_built_event (event.Kill p) = false
-is_built_event (event.Notice p q) = false
-is_built_event (event.Run count) = true
-
-abbrev pub event_mark : Event → Mark
-event_mark e = mark e.spot (is_built_event e.kind)
-
--- the lines of a job in the order of the text, but for those that are run in every accepted job
-abbrev pub marks_of : Job → List Mark
-marks_of job = body_marks job.body ++ map event_mark job.events
-
--- the place of the first line of an accepted job that can't be run yet
+-- the place of the first line of an accepted job that can't be run yet: it stands in the body, since all events can
 abbrev pub first_unbuilt : Job → Option Spot
-first_unbuilt job = first_in (marks_of job)
+first_unbuilt job = first_in (body_marks job.body)
 
 -- a barrier inside a loop
 in_a_loop : first_in (stmt_marks_level (Stmt-F.Loop (record { line = 8; column = 1 }) (codes "c") (Rattle.fx_script.specs.declared.expr.Expr.TheVariants.Number (pos 0)) (pos 1)
     (stmt_marks_level (Stmt-F.Barrier (record { line = 9; column = 3 })) ∷ []))) ≡ Some (record { line = 9; column = 3 })
 in_a_loop = refl
-
--- a kill behind a step
-behind_a_step : first_in (map event_mark (record { spot = record { line = 9; column = 1 }; kind = event.Step (pos 0) } ∷ record { spot = record { line = 10; column = 1 }; kind = event.Kill (pos 0) } ∷ []))
-    ≡ Some (record { line = 10; column = 1 })
-behind_a_step = refl

@@ -21,6 +21,7 @@ use Rattle.fx_cli.specs.Built.{first_unbuilt}
 use Rattle.fx_cli.specs.Dues.{longest_job, mode_of, Input, IsInput, Due, due_to, is_left_unfinished}
 use Rattle.fx_fleet.specs.Runs.{wire_of, journal_of}
 use Rattle.fx_legal.specs.Legal.{IsLegalWhole, AllHaveEnded}
+use Rattle.fx_losses.specs.Losses.{EachEpochHasItsLoss}
 use Rattle.fx_world.specs.declared.end.RunEnd.{RunEnd}
 use Rattle.fx_world.specs.declared.end.RunEnd.TheVariants as run_end
 use Rattle.fx_world.specs.declared.shown.Shown.{Shown}
@@ -71,11 +72,12 @@ pub record Takes (source source' : SourceState) (job : Job) : Type 0 where
   pub spelled : Spells text job
   pub accepted : IsAccepted job
 
--- a whole run of a job: each of its lines can be run, its journal is legal and tells the whole schedule, the tail was enough, all its
--- processes end in its journal, and exactly the text of these items was written
+-- a whole run of a job: each of its lines can be run, its journal is legal and tells the whole schedule, each epoch in it has its loss,
+-- the tail was enough, each of its processes ends or is killed in its journal, and exactly the text of these items was written
 pub record IsWholeRun (job : Job) (items : List Item) (sink sink' : SinkState) : Type 0 where
   pub built : first_unbuilt job ≡ None
   pub legal : IsLegalWhole job (journal_of job)
+  pub losses : EachEpochHasItsLoss job (journal_of job)
   pub over : is_left_unfinished job ≡ false
   pub ended : AllHaveEnded job (journal_of job)
   pub gained : Gains sink.written sink'.written (text_of items)
@@ -87,10 +89,12 @@ IsRun job sink sink' = IsWholeRun job (journal_of job) sink sink'
 abbrev pub IsWired : Job → SinkState → SinkState → Type 0
 IsWired job sink sink' = IsWholeRun job (wire_of job) sink sink'
 
--- a run of a job whose tail wasn't enough: its journal is legal all the same, and exactly the text of these items was written
+-- a run of a job whose tail wasn't enough: its journal is legal and each epoch in it has its loss all the same, and exactly the text of
+-- these items was written
 pub record IsUnfinishedRun (job : Job) (items : List Item) (sink sink' : SinkState) : Type 0 where
   pub built : first_unbuilt job ≡ None
   pub legal : IsLegalWhole job (journal_of job)
+  pub losses : EachEpochHasItsLoss job (journal_of job)
   pub unfinished : is_left_unfinished job ≡ true
   pub gained : Gains sink.written sink'.written (text_of items)
 

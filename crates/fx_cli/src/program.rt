@@ -28,9 +28,9 @@ const LONGEST_JOB: usize = 1_048_576;
 /// Runs the program: from its words and what the source holds to what the sink gets.
 ///
 /// It knows the words `run`, `wire` and `check`, one of them alone. The source is read to its end, the text must spell a
-/// job, and the job must be accepted. Then `check` writes the job's canonical text. If each of its lines can be run, `run`
-/// writes the journal of its run, and `wire` all that happens in it. Each line is written as one piece with its line end. A
-/// refusal is one line.
+/// job, and the job must be accepted. Then `check` writes the job's canonical text. If each line of its body can be run, `run`
+/// writes the journal of its run, and `wire` all that happens in it. Its schedule may have any events: processes are killed
+/// and told of losses. Each line is written as one piece with its line end. A refusal is one line.
 pub fn fenix<S: Source, K: Sink>(
     alloc: Global,
     words: &[String],
@@ -39,19 +39,21 @@ pub fn fenix<S: Source, K: Sink>(
 ) -> Status
     // What was read and written, by the status.
     ensures ends { Ends (map string_bytes words.now) (S.state source.old) (S.state source.new) (K.state sink.old) (K.state sink.new) result }
-    // Done: a text of an accepted job was read. In modes run and wire each of its lines can be run, its journal is legal, each
-    // process ends in it, and exactly the text of its journal was written, or of all that happens; in mode check its canonical
-    // text was.
+    // Done: a text of an accepted job was read. In modes run and wire each line of its body can be run, its journal is legal and
+    // tells the whole schedule, each epoch in it has its loss, each process ends or is killed in it, and exactly the text of its
+    // journal was written, or of all that happens; in mode check its canonical text was.
     ensures done { result ≡ Status.Done → DoesWhatIsAsked (mode_of (map string_bytes words.now)) (S.state source.old) (S.state source.new) (K.state sink.old) (K.state sink.new) }
-    // Unfinished: in modes run and wire alone, the tail of an accepted job's run wasn't enough, and all of the text was written.
+    // Unfinished: in modes run and wire alone, the tail of an accepted job's run wasn't enough, its journal is legal and each epoch
+    // in it has its loss all the same, and all of the text was written.
     ensures unfinished { result ≡ Status.Unfinished → LeavesUnfinished (mode_of (map string_bytes words.now)) (S.state source.old) (S.state source.new) (K.state sink.old) (K.state sink.new) }
-    // Not built: in modes run and wire alone, and the source held a text of an accepted job whose first line that can't be run is there.
+    // Not built: in modes run and wire alone, and the source held a text of an accepted job. The first line that can't be run is
+    // there, and it is a line of the body.
     ensures not_built_is_accepted { (spot : Spot) → result ≡ Status.BadJob Refusal.NotBuilt spot → IsUnbuilt (map string_bytes words.now) (S.state source.old) (S.state source.new) spot }
     // Where the source tells what it holds, that and the words fix the status, unless a fault or want of memory cuts the call short.
     ensures status_is_due { (held : List ℕ) → (S.state source.old).left ≡ Some held → IsUnlessCut (due_to (input_of (map string_bytes words.now) held)).status result }
-    // The source tells a text that spells an accepted job each line of which can be run, and the words ask for its run: the
-    // call is done, or unfinished where the tail isn't enough, unless it is cut short. Exactly the text of the job's journal was
-    // written, which is legal.
+    // The source tells a text that spells an accepted job, each line of its body can be run, and the words ask for its run,
+    // whatever its events are: the call is done, or unfinished where the tail isn't enough, unless it is cut short. Exactly the
+    // text of the job's journal was written, which is legal, and each epoch in it has its loss.
     ensures jobs_are_run { (job : Job) → IsGiven Mode.Run (map string_bytes words.now) (S.state source.old) job → first_unbuilt job ≡ None → IsDoneOrUnfinished (IsRun job (K.state sink.old) (K.state sink.new)) (IsUnfinishedRun job (journal_of job) (K.state sink.old) (K.state sink.new)) result }
     // The same with the word wire: exactly the text of all that happens was written.
     ensures jobs_are_wired { (job : Job) → IsGiven Mode.Wire (map string_bytes words.now) (S.state source.old) job → first_unbuilt job ≡ None → IsDoneOrUnfinished (IsWired job (K.state sink.old) (K.state sink.new)) (IsUnfinishedRun job (wire_of job) (K.state sink.old) (K.state sink.new)) result }

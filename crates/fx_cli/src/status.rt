@@ -21,7 +21,7 @@ pub enum Refusal {
 /// How a call of the program ended.
 #[derive(Clone, Copy, Debug, PartialEq, Eq)]
 pub enum Status {
-    /// All was written. Where a job was run, each of its processes ended.
+    /// All was written. Where a job was run, each of its processes ended or was killed.
     Done,
     /// The words weren't one word alone, `run`, `wire` or `check`, and nothing was read.
     BadWords,

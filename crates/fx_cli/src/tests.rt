@@ -24,6 +24,9 @@ const WIRE_OF_TWO: &str =
 const A_KILL: &str =
     "fenix 1\nranks 2\nspares 0\nseparation 1\nbegin\nend\nschedule\nstep 0\nkill 1\nstop\n";
 
+const WIRE_OF_A_KILL: &str =
+    "join 0 1 start\nsend 0 1 join 1 start\nkill 1\ntold 1 0\nsend 0 1 jest 1 0 start,lost\nrepaired 0 1 1 spares-depleted : 0=0\ninit 0 1 initial 0 0 1 spares-depleted\njoin 0 2 final\nended 0\n";
+
 const A_BARRIER: &str =
     "fenix 1\nranks 2\nspares 0\nseparation 1\nbegin\nbarrier\nend\nschedule\nstop\n";
 
@@ -109,12 +112,7 @@ fn texts_are_answered(rt: HostRuntime) -> Result<(), Fail> {
             unbuilt(6),
             "fenix: bad job: NotBuilt at 6:1\n",
         ),
-        (
-            "wire",
-            A_KILL,
-            unbuilt(9),
-            "fenix: bad job: NotBuilt at 9:1\n",
-        ),
+        ("wire", A_KILL, Status::Done, WIRE_OF_A_KILL),
         (
             "run",
             "",

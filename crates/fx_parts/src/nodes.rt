@@ -17,41 +17,83 @@ const NUMBERS: [u32; 3] = [0, 1, u32::MAX];
 fn messages(alloc: Global) -> Result<Seq<Message>, Fail> {
     let mut all = Seq::new(alloc);
     for number in NUMBERS {
-        let e = Epoch(number);
-        for kind in [Slot::Start, Slot::Final, Slot::Yes, Slot::NoLost(Proc(9))] {
-            all.push(Message::Join { e, kind })?;
-        }
-        for count in 0..4 {
-            let slots = slots_of(alloc, count)?;
-            all.push(Message::Jest { e, r: count, slots })?;
-        }
+        add_joins(&mut all, Epoch(number))?;
+        add_estimates(alloc, &mut all, Epoch(number))?;
         for call in NUMBERS {
-            add_of_call(alloc, &mut all, e, CallNo(call))?;
+            add_of_call(alloc, &mut all, Epoch(number), CallNo(call))?;
         }
     }
     Ok(all)
 }
 
-fn add_of_call(alloc: Global, all: &mut Seq<Message>, e: Epoch, k: CallNo) -> Result<(), Fail> {
-    let elems = Elems::new(alloc);
-    all.push(Message::Part { e, k, elems })?;
-    all.push(Message::Vote {
-        e,
-        k,
-        slot: Slot::Flag(-1),
-    })?;
-    let slots = slots_of(alloc, 2)?;
-    all.push(Message::Est { e, k, r: 0, slots })?;
-    let shares = StampShares::new(alloc);
-    all.push(Message::Share { e, k, shares })?;
-    for known in [None, Some(known_of(alloc)?)] {
-        all.push(Message::Tell { e, k, known })?;
+fn add_joins(all: &mut Seq<Message>, e: Epoch) -> Result<(), Fail> {
+    for kind in [Slot::Start, Slot::Final, Slot::Yes, Slot::NoLost(Proc(9))] {
+        all.push(Message::Join { e, kind })?;
     }
-    let shares = StampShares::new(alloc);
-    all.push(Message::Help { e, k, shares })?;
-    let shares = StampShares::new(alloc);
-    all.push(Message::Give { e, k, shares })?;
     Ok(())
+}
+
+fn add_estimates(alloc: Global, all: &mut Seq<Message>, e: Epoch) -> Result<(), Fail> {
+    for count in 0..4 {
+        let slots = slots_of(alloc, count)?;
+        all.push(Message::Jest { e, r: count, slots })?;
+    }
+    Ok(())
+}
+
+fn add_of_call(alloc: Global, all: &mut Seq<Message>, e: Epoch, k: CallNo) -> Result<(), Fail> {
+    for kind in 0..8 {
+        all.push(message_of_call(alloc, e, k, kind)?)?;
+    }
+    Ok(())
+}
+
+fn message_of_call(alloc: Global, e: Epoch, k: CallNo, kind: u8) -> Result<Message, Fail> {
+    match kind {
+        0 => Ok(part(alloc, e, k)),
+        1 => Ok(vote(e, k)),
+        2 => estimate(alloc, e, k),
+        3 => Ok(Message::Tell { e, k, known: None }),
+        4 => tell(alloc, e, k),
+        5 => Ok(share(alloc, e, k)),
+        6 => Ok(help(alloc, e, k)),
+        _ => Ok(give(alloc, e, k)),
+    }
+}
+
+fn part(alloc: Global, e: Epoch, k: CallNo) -> Message {
+    let elems = Elems::new(alloc);
+    Message::Part { e, k, elems }
+}
+
+fn vote(e: Epoch, k: CallNo) -> Message {
+    let slot = Slot::Flag(-1);
+    Message::Vote { e, k, slot }
+}
+
+fn estimate(alloc: Global, e: Epoch, k: CallNo) -> Result<Message, Fail> {
+    let slots = slots_of(alloc, 2)?;
+    Ok(Message::Est { e, k, r: 0, slots })
+}
+
+fn tell(alloc: Global, e: Epoch, k: CallNo) -> Result<Message, Fail> {
+    let known = Some(known_of(alloc)?);
+    Ok(Message::Tell { e, k, known })
+}
+
+fn share(alloc: Global, e: Epoch, k: CallNo) -> Message {
+    let shares = StampShares::new(alloc);
+    Message::Share { e, k, shares }
+}
+
+fn help(alloc: Global, e: Epoch, k: CallNo) -> Message {
+    let shares = StampShares::new(alloc);
+    Message::Help { e, k, shares }
+}
+
+fn give(alloc: Global, e: Epoch, k: CallNo) -> Message {
+    let shares = StampShares::new(alloc);
+    Message::Give { e, k, shares }
 }
 
 fn slots_of(alloc: Global, count: u8) -> Result<Slots, Fail> {

@@ -13,7 +13,7 @@ struct Row {
     code: u8,
 }
 
-const RUN_ROWS: [Row; 15] = [
+const RUN_ROWS: [Row; 13] = [
     Row {
         shows: "the prints of one rank",
         words: "run",
@@ -105,19 +105,99 @@ const RUN_ROWS: [Row; 15] = [
         written: "fenix: bad job: NotBuilt at 10:1|",
         code: 3,
     },
+];
+
+const LOSS_ROWS: [Row; 13] = [
     Row {
-        shows: "a kill",
+        shows: "a rank that is lost after two rounds, and a spare that takes its place",
         words: "run",
-        source: "fenix 1|ranks 2|spares 0|separation 1|counter c|begin|print c|end|schedule|step 0|kill 1|stop|",
-        written: "fenix: bad job: NotBuilt at 11:1|",
-        code: 3,
+        source: "fenix 1|ranks 2|spares 1|separation 1|array a 1|callback n|print a|endcallback|begin|register n|let a + a 5|print a|end|schedule|run 2|kill 1|stop|",
+        written: "join 0 1 start|join 1 1 start|join 2 1 start|repaired 2 1 2 full : 0=0 1=1|kill 1|repaired 0 1 2 full : 0=0 1=1|init 0 1 initial 0 0 2 full|print 0 1 a : 5|join 0 2 final|join 2 2 spare|repaired 2 2 2 full : 0=0 1=2|init 2 2 recovered 1 1 2 full|print 2 2 a : 5|join 2 3 final|repaired 0 2 2 full : 0=0 1=2|callback 0 2 n|print 0 2 a : 5|init 0 2 survivor 0 0 2 full|print 0 2 a : 10|join 0 3 final|ended 2|ended 0|",
+        code: 0,
     },
     Row {
-        shows: "a notice",
+        shows: "all of it",
+        words: "wire",
+        source: "fenix 1|ranks 2|spares 1|separation 1|array a 1|callback n|print a|endcallback|begin|register n|let a + a 5|print a|end|schedule|run 2|kill 1|stop|",
+        written: "join 0 1 start|send 0 1 join 1 start|send 0 2 join 1 start|deliver 0 1 join 1 start|join 1 1 start|send 1 0 join 1 start|send 1 2 join 1 start|deliver 0 2 join 1 start|deliver 1 2 join 1 start|join 2 1 start|send 2 0 join 1 start|send 2 1 join 1 start|deliver 1 0 join 1 start|deliver 2 0 join 1 start|send 0 1 jest 1 0 start,start,start|send 0 2 jest 1 0 start,start,start|deliver 0 1 jest 1 0 start,start,start|deliver 2 1 join 1 start|send 1 0 jest 1 1 start,start,start|send 1 2 jest 1 1 start,start,start|deliver 0 2 jest 1 0 start,start,start|deliver 1 2 jest 1 1 start,start,start|send 2 0 jest 1 2 start,start,start|send 2 1 jest 1 2 start,start,start|repaired 2 1 2 full : 0=0 1=1|kill 1|deliver 1 0 jest 1 1 start,start,start|deliver 2 0 jest 1 2 start,start,start|told 1 0|repaired 0 1 2 full : 0=0 1=1|init 0 1 initial 0 0 2 full|print 0 1 a : 5|join 0 2 final|send 0 1 join 2 final|send 0 2 join 2 final|deliver 0 2 join 2 final|told 1 2|join 2 2 spare|send 2 0 join 2 spare|send 2 1 join 2 spare|deliver 2 0 join 2 spare|send 0 1 jest 2 0 final,lost,spare|send 0 2 jest 2 0 final,lost,spare|deliver 0 2 jest 2 0 final,lost,spare|send 2 0 jest 2 2 final,lost,spare|send 2 1 jest 2 2 final,lost,spare|repaired 2 2 2 full : 0=0 1=2|init 2 2 recovered 1 1 2 full|print 2 2 a : 5|join 2 3 final|send 2 0 join 3 final|deliver 2 0 jest 2 2 final,lost,spare|deliver 2 0 join 3 final|repaired 0 2 2 full : 0=0 1=2|callback 0 2 n|print 0 2 a : 5|init 0 2 survivor 0 0 2 full|print 0 2 a : 10|join 0 3 final|send 0 2 join 3 final|send 0 2 jest 3 0 final,final|deliver 0 2 join 3 final|deliver 0 2 jest 3 0 final,final|send 2 0 jest 3 1 final,final|ended 2|deliver 2 0 jest 3 1 final,final|ended 0|",
+        code: 0,
+    },
+    Row {
+        shows: "the one rank, lost before its first step",
+        words: "run",
+        source: "fenix 1|ranks 1|spares 1|separation 1|array a 3|begin|print a|print a|end|schedule|kill 0|stop|",
+        written: "kill 0|join 1 1 start|repaired 1 1 1 full : 0=1|init 1 1 initial 0 0 1 full|print 1 1 a : 0 0 0|print 1 1 a : 0 0 0|join 1 2 final|ended 1|",
+        code: 0,
+    },
+    Row {
+        shows: "the spare, lost after two rounds",
+        words: "run",
+        source: "fenix 1|ranks 1|spares 1|separation 1|array a 3|begin|end|schedule|run 2|kill 1|stop|",
+        written: "join 0 1 start|join 1 1 start|repaired 1 1 1 full : 0=0|kill 1|repaired 0 1 1 full : 0=0|init 0 1 initial 0 0 1 full|join 0 2 final|ended 0|",
+        code: 0,
+    },
+    Row {
+        shows: "a rank that is lost, and no spare",
+        words: "run",
+        source: "fenix 1|ranks 2|spares 0|separation 1|counter c|begin|print c|end|schedule|step 0|kill 1|stop|",
+        written: "join 0 1 start|kill 1|repaired 0 1 1 spares-depleted : 0=0|init 0 1 initial 0 0 1 spares-depleted|print 0 1 c : 0|join 0 2 final|ended 0|",
+        code: 0,
+    },
+    Row {
+        shows: "two ranks that are lost, and two spares",
+        words: "run",
+        source: "fenix 1|ranks 3|spares 2|separation 1|array a 1|callback n|print a|endcallback|begin|register n|let a + a 5|print a|end|schedule|run 2|kill 1|kill 0|stop|",
+        written: "join 0 1 start|join 1 1 start|join 2 1 start|join 3 1 start|join 4 1 start|repaired 4 1 3 full : 0=0 1=1 2=2|kill 1|kill 0|repaired 2 1 3 full : 0=0 1=1 2=2|init 2 1 initial 2 2 3 full|print 2 1 a : 5|join 2 2 final|repaired 3 1 3 full : 0=0 1=1 2=2|join 3 2 spare|join 4 2 spare|repaired 4 2 3 full : 0=3 1=4 2=2|init 4 2 recovered 1 1 3 full|print 4 2 a : 5|join 4 3 final|repaired 2 2 3 full : 0=3 1=4 2=2|callback 2 2 n|print 2 2 a : 5|init 2 2 survivor 2 2 3 full|print 2 2 a : 10|join 2 3 final|repaired 3 2 3 full : 0=3 1=4 2=2|init 3 2 recovered 0 0 3 full|print 3 2 a : 5|join 3 3 final|ended 4|ended 2|ended 3|",
+        code: 0,
+    },
+    Row {
+        shows: "two ranks that are lost, and one spare",
+        words: "run",
+        source: "fenix 1|ranks 3|spares 1|separation 1|array a 1|callback n|print a|endcallback|begin|register n|let a + a 5|print a|end|schedule|run 2|kill 1|kill 0|stop|",
+        written: "join 0 1 start|join 1 1 start|join 2 1 start|join 3 1 start|repaired 3 1 3 full : 0=0 1=1 2=2|kill 1|kill 0|repaired 2 1 3 full : 0=0 1=1 2=2|init 2 1 initial 2 2 3 full|print 2 1 a : 5|join 2 2 final|join 3 2 spare|repaired 3 2 2 spares-depleted : 0=3 2=2|init 3 2 recovered 0 0 2 spares-depleted|print 3 2 a : 5|join 3 3 final|repaired 2 2 2 spares-depleted : 0=3 2=2|callback 2 2 n|print 2 2 a : 5|init 2 2 survivor 2 1 2 spares-depleted|print 2 2 a : 10|join 2 3 final|ended 3|ended 2|",
+        code: 0,
+    },
+    Row {
+        shows: "losses in two epochs",
+        words: "run",
+        source: "fenix 1|ranks 3|spares 1|separation 1|array a 1|callback n|print a|endcallback|begin|register n|let a + a 5|print a|end|schedule|run 2|kill 1|run 2|kill 0|stop|",
+        written: "join 0 1 start|join 1 1 start|join 2 1 start|join 3 1 start|repaired 3 1 3 full : 0=0 1=1 2=2|kill 1|repaired 0 1 3 full : 0=0 1=1 2=2|init 0 1 initial 0 0 3 full|print 0 1 a : 5|join 0 2 final|repaired 2 1 3 full : 0=0 1=1 2=2|init 2 1 initial 2 2 3 full|print 2 1 a : 5|join 2 2 final|join 3 2 spare|repaired 3 2 3 full : 0=0 1=3 2=2|init 3 2 recovered 1 1 3 full|print 3 2 a : 5|join 3 3 final|kill 0|repaired 2 2 3 full : 0=0 1=3 2=2|callback 2 2 n|print 2 2 a : 5|init 2 2 survivor 2 2 3 full|print 2 2 a : 10|join 2 3 final|repaired 3 3 2 spares-depleted : 1=3 2=2|callback 3 3 n|print 3 3 a : 5|init 3 3 survivor 1 0 2 spares-depleted|print 3 3 a : 10|join 3 4 final|repaired 2 3 2 spares-depleted : 1=3 2=2|callback 2 3 n|print 2 3 a : 10|init 2 3 survivor 2 1 2 spares-depleted|print 2 3 a : 15|join 2 4 final|ended 3|ended 2|",
+        code: 0,
+    },
+    Row {
+        shows: "one that is killed twice, and nobody is left",
+        words: "run",
+        source: "fenix 1|ranks 2|spares 0|separation 1|array a 1|callback n|print a|endcallback|begin|register n|let a + a 5|print a|end|schedule|run 2|kill 0|kill 0|kill 1|stop|",
+        written: "join 0 1 start|join 1 1 start|repaired 1 1 2 full : 0=0 1=1|init 1 1 initial 1 1 2 full|print 1 1 a : 5|join 1 2 final|kill 0|kill 1|",
+        code: 0,
+    },
+    Row {
+        shows: "a kill of one that has ended",
+        words: "run",
+        source: "fenix 1|ranks 2|spares 1|separation 1|array a 1|callback n|print a|endcallback|begin|register n|let a + a 5|print a|end|schedule|run 4|kill 2|kill 0|stop|",
+        written: "join 0 1 start|join 1 1 start|join 2 1 start|repaired 2 1 2 full : 0=0 1=1|repaired 0 1 2 full : 0=0 1=1|init 0 1 initial 0 0 2 full|print 0 1 a : 5|join 0 2 final|repaired 1 1 2 full : 0=0 1=1|init 1 1 initial 1 1 2 full|print 1 1 a : 5|join 1 2 final|join 2 2 spare|ended 2|kill 0|ended 1|",
+        code: 0,
+    },
+    Row {
+        shows: "a notice of one that lives",
         words: "wire",
         source: "fenix 1|ranks 2|spares 0|separation 1|counter c|begin|print c|end|schedule|notice 0 1|stop|",
-        written: "fenix: bad job: NotBuilt at 10:1|",
-        code: 3,
+        written: "join 0 1 start|send 0 1 join 1 start|deliver 0 1 join 1 start|join 1 1 start|send 1 0 join 1 start|deliver 1 0 join 1 start|send 0 1 jest 1 0 start,start|deliver 0 1 jest 1 0 start,start|send 1 0 jest 1 1 start,start|repaired 1 1 2 full : 0=0 1=1|init 1 1 initial 1 1 2 full|print 1 1 c : 0|join 1 2 final|send 1 0 join 2 final|deliver 1 0 jest 1 1 start,start|deliver 1 0 join 2 final|repaired 0 1 2 full : 0=0 1=1|init 0 1 initial 0 0 2 full|print 0 1 c : 0|join 0 2 final|send 0 1 join 2 final|send 0 1 jest 2 0 final,final|deliver 0 1 join 2 final|deliver 0 1 jest 2 0 final,final|send 1 0 jest 2 1 final,final|ended 1|deliver 1 0 jest 2 1 final,final|ended 0|",
+        code: 0,
+    },
+    Row {
+        shows: "a message that comes after the loss of its sender",
+        words: "wire",
+        source: "fenix 1|ranks 1|spares 1|separation 1|array a 3|begin|print a|end|schedule|step 0|kill 0|deliver 0 1|notice 0 1|stop|",
+        written: "join 0 1 start|send 0 1 join 1 start|kill 0|deliver 0 1 join 1 start|told 0 1|join 1 1 start|send 1 0 join 1 start|send 1 0 jest 1 1 start,start|repaired 1 1 1 full : 0=0|join 1 2 spare|send 1 0 join 2 spare|send 1 0 jest 2 1 lost,spare|repaired 1 2 1 full : 0=1|init 1 2 recovered 0 0 1 full|print 1 2 a : 0 0 0|join 1 3 final|ended 1|",
+        code: 0,
+    },
+    Row {
+        shows: "a message that is under way at the notice",
+        words: "wire",
+        source: "fenix 1|ranks 1|spares 1|separation 1|array a 3|begin|print a|end|schedule|step 0|kill 0|notice 0 1|deliver 0 1|stop|",
+        written: "join 0 1 start|send 0 1 join 1 start|kill 0|told 0 1|join 1 1 start|send 1 0 join 1 start|send 1 0 jest 1 1 lost,start|repaired 1 1 1 full : 0=1|init 1 1 initial 0 0 1 full|print 1 1 a : 0 0 0|join 1 2 final|ended 1|",
+        code: 0,
     },
 ];
 
@@ -187,6 +267,17 @@ fn answer_to(alloc: Global, row: &Row) -> Result<(u8, Bytes), Fail> {
 #[test]
 fn jobs_are_run(rt: HostRuntime) -> Result<(), Fail> {
     for row in RUN_ROWS.iter() {
+        let (code, written) = answer_to(rt.alloc(), row)?;
+        let due = bytes_of(rt.alloc(), &[row.written])?;
+        assert_eq!(rt; code, row.code, "at {}", row.shows);
+        assert_eq!(rt; written.as_slice(), due.as_slice(), "at {}", row.shows);
+    }
+    Ok(())
+}
+
+#[test]
+fn jobs_with_losses_are_run(rt: HostRuntime) -> Result<(), Fail> {
+    for row in LOSS_ROWS.iter() {
         let (code, written) = answer_to(rt.alloc(), row)?;
         let due = bytes_of(rt.alloc(), &[row.written])?;
         assert_eq!(rt; code, row.code, "at {}", row.shows);

@@ -9,9 +9,10 @@ use crate::cursor::{Cursor, FoundWord};
 use crate::draft::{Draft, DuePart};
 use crate::head::{read_event, read_head};
 use crate::job::Event;
-use crate::keyword::{EventWord, Keyword, keyword_of};
+use crate::keyword::{EventWord, Keyword, SimpleWord, keyword_of};
 use crate::order::may_stand;
 use crate::refusal::{JobFault, ReadJob, Stop, Wrong};
+use crate::statement::read_simple;
 use fx_base::Spot;
 use fx_text::{LONGEST_LINE, LineFault, check_line, next_line};
 use std::alloc::Global;
@@ -106,12 +107,29 @@ fn take_met(
         column: first.column,
     };
     match keyword_due(draft, first)? {
+        Keyword::Simple(word) => take_simple(alloc, draft, spot, word, cursor),
         Keyword::Event(word) => take_event(draft, spot, word, cursor),
         keyword => take_other(alloc, draft, spot, keyword, cursor),
     }
 }
 
-// Takes an event: it goes straight into its list, since a schedule may have many.
+// Takes a statement without a block: it goes straight into its list, as a body may have many.
+fn take_simple(
+    alloc: Global,
+    draft: &mut Draft,
+    spot: Spot,
+    word: SimpleWord,
+    cursor: &mut Cursor,
+) -> Result<(), Stop>
+    ensures { Advances result draft.new (said_by draft.old (keyword.Simple word) spot cursor.old) }
+{
+    let stmt = read_simple(alloc, word, spot, cursor)?;
+    cursor.end()?;
+    draft.now.push(stmt)?;
+    Ok(())
+}
+
+// Takes an event: it goes straight into its list, as a schedule may have many.
 fn take_event(
     draft: &mut Draft,
     spot: Spot,

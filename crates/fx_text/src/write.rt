@@ -19,13 +19,14 @@ pub fn put_number(out: &mut Bytes, number: i64) -> Result<(), NoMemory>
     ensures ok { OnOk result (out.new ≡ out.old ++ 32 ∷ signed_decimal number) }
     ensures keeps { Keeps out.old out.new }
 {
-    match one_digit(number) {
-        Some(digit) => out.append(&[b' ', digit]),
-        None => {
-            out.push(b' ')?;
-            push_number(out, number)
-        }
+    if let Some(digit) = one_digit(number) {
+        return out.append(&[b' ', digit]);
     }
+    if let Some((tens, ones)) = two_digits(number) {
+        return out.append(&[b' ', tens, ones]);
+    }
+    out.push(b' ')?;
+    push_number(out, number)
 }
 
 /// Writes numbers, each in its one form behind a space. Without memory all that was written before stays in front.

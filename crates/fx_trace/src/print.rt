@@ -1,12 +1,13 @@
 ghost use Rattle.std.specs.Prelude.{◌≡◌, ◌++◌, map, OnOk};
 ghost use Rattle.fx_text.specs.Written.{Keeps, spaced};
+ghost use Rattle.fx_item.specs.declared.item.Item.TheVariants as Item;
 ghost use Rattle.fx_lines.specs.Items.{line_of};
 ghost use Rattle.fx_trace.specs.Printed.{holding_text, item_text, message_text, row_text, row_words, word_of};
 
 use crate::field::Field;
 use crate::list::Tail;
 use crate::rows::{item_rows, message_rows};
-use fx_base::{Bytes, NoMemory};
+use fx_base::{Bytes, Elems, Epoch, NoMemory, Proc};
 use fx_item::Item;
 use fx_link::{Known, Message};
 use fx_text::put_word;
@@ -53,6 +54,35 @@ macro_rules! put_ended {
 }
 
 fn put_item(out: &mut Bytes, item: &Item) -> Result<(), NoMemory>
+    ensures ok { OnOk result (out.new ≡ out.old ++ item_text item.now) }
+    ensures keeps { Keeps out.old out.new }
+{
+    match item {
+        Item::Print { p, e, name, list } => put_print(out, p, e, name, list),
+        _ => put_any_item(out, item),
+    }
+}
+
+// The row of a print. A journal has more of these than of all others, and a function with one row makes room for one.
+fn put_print(
+    out: &mut Bytes,
+    p: &Proc,
+    e: &Epoch,
+    name: &Bytes,
+    list: &Elems,
+) -> Result<(), NoMemory>
+    ensures ok { OnOk result (out.new ≡ out.old ++ item_text (Item.Print p.now e.now name.now list.now)) }
+    ensures keeps { Keeps out.old out.new }
+{
+    put_row(
+        out,
+        b"print",
+        &[Field::Process(p), Field::Epoch(e), Field::Name(name)],
+        Tail::Numbers(list),
+    )
+}
+
+fn put_any_item(out: &mut Bytes, item: &Item) -> Result<(), NoMemory>
     ensures ok { OnOk result (out.new ≡ out.old ++ item_text item.now) }
     ensures keeps { Keeps out.old out.new }
 {

@@ -23,6 +23,14 @@ returns-in-Event c =
     let is : Gives {X = Keyword} (Ok event) (keyword_placed c.args.draft.now.due_part c.args.draft.now.blocks met.first) = rw (c.in-Event.is) at c.in_ok-keyword.ensures in
     goes_by_keyword c.args.draft.now met event c.take_event.result c.take_event.new.draft is c.take_event.ensures
 
+-- a statement without a block
+pub returns-in-Simple : goal.returns-in-Simple
+returns-in-Simple c =
+    let met : Met = record { number = c.args.number; first = word_of c.args.first; left = c.args.cursor.now } in
+    let simple : Keyword = keyword.Simple c.in-Simple.word in
+    let is : Gives {X = Keyword} (Ok simple) (keyword_placed c.args.draft.now.due_part c.args.draft.now.blocks met.first) = rw (c.in-Simple.is) at c.in_ok-keyword.ensures in
+    goes_by_keyword c.args.draft.now met simple c.take_simple.result c.take_simple.new.draft is c.take_simple.ensures
+
 -- another line
 pub returns-in_default : goal.returns-in_default
 returns-in_default c =

@@ -1,0 +1,4 @@
+pub mod Firsts
+pub mod Answers
+pub mod Machine
+mod Rows

@@ -1,0 +1,4 @@
+pub mod Keeping
+pub mod Answer
+pub mod Machine
+pub mod Rows
