@@ -56,7 +56,7 @@ sum_few (suc n) f most few =
 
 -- ---- the tail
 
-until_done : {X : Type 0} (done : X → Bool) (step : X → X) (n : ℕ) (x : X) → done x ≡ true → until done step n x ≡ x
+pub until_done : {X : Type 0} (done : X → Bool) (step : X → X) (n : ℕ) (x : X) → done x ≡ true → until done step n x ≡ x
 until_done done step zero x e = refl
 until_done {X} done step (suc n) x e = ap (λ (b : Bool). elim b as (λ c. X) [ true ↦ x | false ↦ until done step n (step x) ]) e
 
@@ -103,7 +103,7 @@ module _ (job : Job) (accepted : IsAccepted job) (asks : AsksNothing job) where
 
 -- ---- the bound
 
-epochs_times : (work procs e : ℕ) → all_epochs work procs e ≡ e * (work + procs + 4)
+pub epochs_times : (work procs e : ℕ) → all_epochs work procs e ≡ e * (work + procs + 4)
 epochs_times work procs zero = grind arith
 epochs_times work procs (suc e) =
     let rest = epochs_times work procs e in

@@ -190,12 +190,12 @@ module _ (job : Job) (asks : AsksNothing job) where
       of true b e = (refl, e)
       of false b e = absurd (let bad : true ≡ false = e in cc)
 
-  step_rises : (q : ℕ) (w : World) → Good job [] w → is_quiet s q w ≡ false → level job w q < level job (steps s q w) q
-  step_rises q w is e = let k = goes_on q w e in subst (λ (b : Bool). level job w q < level job (if b then does_if s q (next s (w.node q)) w else w) q) (sym k.0) (of (next s (w.node q)) refl k.1 k.0)
+  pub step_rises : (ps : List ℕ) (q : ℕ) (w : World) → Good job ps w → is_quiet s q w ≡ false → level job w q < level job (steps s q w) q
+  step_rises ps q w is e = let k = goes_on q w e in subst (λ (b : Bool). level job w q < level job (if b then does_if s q (next s (w.node q)) w else w) q) (sym k.0) (of (next s (w.node q)) refl k.1 k.0)
     where
       of : (o : Option Act) → next s (w.node q) ≡ o → is_none o ≡ false → up s w q ≡ true → level job w q < level job (does_if s q o w) q
       of None i some on = absurd (let bad : true ≡ false = some in cc)
-      of (Some act) i some on = act_rises job [] q w act on i is
+      of (Some act) i some on = act_rises job ps q w act on i is
 
   self_ahead : (w : World) → Good job [] w → Ahead job w [] w
   self_ahead w is = (is, λ q. omega arith)
@@ -211,7 +211,7 @@ module _ (job : Job) (asks : AsksNothing job) where
 
       of : (b : Bool) → is_quiet s q w ≡ b → level job (elim b as (λ c. World) [ true ↦ w | false ↦ rests s more q (steps s q w) ]) q ≤ level job w q → ((elim b as (λ c. World) [ true ↦ w | false ↦ rests s more q (steps s q w) ]) ≡ w) × (b ≡ true)
       of true e low = (refl, refl)
-      of false e low = absurd (not_less _ _ _ (step_rises q w is e) later low)
+      of false e low = absurd (not_less _ _ _ (step_rises [] q w is e) later low)
 
   still_turn : (more q : ℕ) (w : World) → Good job [] w → level job (fair_turn s (suc more) q w) q ≤ level job w q
       → Attended q w (fair_turn s (suc more) q w) × (up s (fair_turn s (suc more) q w) q ≡ true → StillAt s q (fair_turn s (suc more) q w))

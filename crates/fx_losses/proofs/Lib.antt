@@ -42,3 +42,4 @@ pub mod Heights
 pub mod Rising
 pub mod Fair
 pub mod Ends
+pub mod Rests

@@ -69,7 +69,7 @@ module _ (s : Setup) (Is : List ℕ → World → Type 0) (k : IsKeptAlong s Is)
 
 module _ (s : Setup) (Is : List ℕ → World → Type 0) (k : IsKeptAlong s Is) where
   -- each kill that is still to come is of a process of the job
-  moment_keeps : (fuel : ℕ) (m : Moment) (ms : List Moment) (w : World) → Each (λ p. p < s.procs) (kills_of (m ∷ ms)) → Is (kills_of (m ∷ ms)) w → Is (kills_of ms) (happens s fuel m w)
+  pub moment_keeps : (fuel : ℕ) (m : Moment) (ms : List Moment) (w : World) → Each (λ p. p < s.procs) (kills_of (m ∷ ms)) → Is (kills_of (m ∷ ms)) w → Is (kills_of ms) (happens s fuel m w)
   moment_keeps fuel (Step p) ms w few is = step_keeps s Is k (kills_of ms) p w is
   moment_keeps fuel (Rest p) ms w few is = rest_keeps s Is k (kills_of ms) fuel p w is
   moment_keeps fuel (Deliver p q) ms w few is = delivery_keeps s Is k (kills_of ms) p q w is
@@ -77,7 +77,7 @@ module _ (s : Setup) (Is : List ℕ → World → Type 0) (k : IsKeptAlong s Is)
   moment_keeps fuel (Notice p q) ms w few is = notice_keeps s Is k (kills_of ms) p q w is
   moment_keeps fuel (Run count) ms w few is = rising_keep (Is (kills_of ms)) (λ i. fair_round s fuel) (λ i x. round_keeps s Is k (kills_of ms) fuel x) count w is
 
-  fewer : (m : Moment) (ms : List Moment) → Each (λ p. p < s.procs) (kills_of (m ∷ ms)) → Each (λ p. p < s.procs) (kills_of ms)
+  pub fewer : (m : Moment) (ms : List Moment) → Each (λ p. p < s.procs) (kills_of (m ∷ ms)) → Each (λ p. p < s.procs) (kills_of ms)
   fewer (Step p) ms few = few
   fewer (Rest p) ms few = few
   fewer (Deliver p q) ms few = few

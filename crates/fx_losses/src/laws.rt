@@ -7,7 +7,7 @@ ghost use Rattle.fx_check.specs.Acceptance.{IsAccepted};
 ghost use Rattle.fx_check.specs.Work.{bound_of};
 ghost use Rattle.fx_machine.specs.Setup.{Setup};
 ghost use Rattle.fx_item.specs.declared.item.Item.{Item};
-ghost use Rattle.fx_fleet.specs.Rounds.{is_of_journal, all_happen, journal, Moment, all_over, whole};
+ghost use Rattle.fx_fleet.specs.Rounds.{is_of_journal, is_quiet, rests, all_happen, journal, Moment, all_over, whole};
 ghost use Rattle.fx_fleet.specs.World.{first_world};
 ghost use Rattle.fx_fleet.specs.Runs.{AsksNothing, job_setup, moments_of, rest_bound_of, journal_of};
 ghost use Rattle.fx_legal.specs.Legal.{IsLegal, IsLegalWhole, ledger_of, AllHaveEnded};
@@ -44,6 +44,15 @@ pub fn all_processes_end()
     ensures within { (job : Job) → IsAccepted job → AsksNothing job → (fuel : ℕ) → 1 ≤ fuel → (bound : ℕ) → bound_of job ≤ bound
         → all_over (job_setup job) (whole (job_setup job) fuel bound (moments_of job)) ≡ true }
     ensures shown { (job : Job) → IsAccepted job → AsksNothing job → AllHaveEnded job (journal_of job) }
+{}
+
+/// The steps of a rest are enough: behind each front of the schedule a rest of that many leaves its process quiet, and in the whole run more
+/// of them would change nothing.
+pub fn rests_come_to_rest()
+    ensures quiet { (job : Job) → IsAccepted job → AsksNothing job → (fuel : ℕ) (front more : List Moment) → moments_of job ≡ front ++ more → (p : ℕ)
+        → is_quiet (job_setup job) p (rests (job_setup job) (rest_bound_of job) p (all_happen (job_setup job) fuel front (first_world (job_setup job)))) ≡ true }
+    ensures more { (job : Job) → IsAccepted job → AsksNothing job → (fuel : ℕ) → rest_bound_of job ≤ fuel → (bound : ℕ)
+        → whole (job_setup job) fuel bound (moments_of job) ≡ whole (job_setup job) (rest_bound_of job) bound (moments_of job) }
 {}
 
 /// No processes wait for one another for ever: where nothing is under way in the world of such a run, all losses are told and no action
