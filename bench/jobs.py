@@ -20,18 +20,38 @@ def of_ranks(ranks, prints, events):
     return HEAD.format(ranks, 16) + body + "end\nschedule\n" + "".join(event + "\n" for event in events) + "stop\n"
 
 
-def drawn(ranks, count):
-    """So many steps, rests and deliveries, by a sequence of numbers that is always the same."""
-    x = 5
+def numbers(x):
+    """A sequence of numbers that is always the same from its first one on: a call gives the next, below a limit."""
 
     def below(m):
         nonlocal x
         x = (x * 6364136223846793005 + 1442695040888963407) % 2**64
         return (x >> 33) % m
 
+    return below
+
+
+def drawn(ranks, count):
+    """So many steps, rests and deliveries, drawn."""
+    below = numbers(5)
     for _ in range(count):
         kind = ("step", "rest", "deliver")[below(3)]
         yield f"{kind} {below(ranks)}" + (f" {below(ranks)}" if kind == "deliver" else "")
+
+
+def losing(ranks, spares, kills):
+    """A job that loses processes: 2,000 steps and deliveries in front of each kill, and a round in front of every other one."""
+    below = numbers(6)
+    events = []
+    for kill in range(kills):
+        events += ["run 1"] * (kill % 2)
+        for _ in range(2_000):
+            kind = "step" if below(4) else "deliver"
+            events.append(f"{kind} {below(ranks + spares)}" + (f" {below(ranks + spares)}" if kind == "deliver" else ""))
+        events.append(f"kill {below(ranks + spares)}")
+    head = f"fenix 1\nranks {ranks}\nspares {spares}\nseparation 1\narray a 64\ncallback n\nprint a\nendcallback\nbegin\n"
+    body = "register n\nlet a + a 5\n" + "print a\n" * 300
+    return head + body + "end\nschedule\n" + "".join(event + "\n" for event in events) + "stop\n"
 
 
 def looped(turns, declared, body, behind):
@@ -81,6 +101,8 @@ def jobs():
         yield f"plain_{ranks}_{prints}", of_ranks(ranks, prints, []), DONE
     for count in (10_000, 100_000):
         yield f"events_16_{count}", of_ranks(16, 200, drawn(16, count)), DONE
+    for ranks, spares, kills in ((8, 8, 8), (4, 12, 12)):
+        yield f"losses_{ranks}_{spares}_{kills}", losing(ranks, spares, kills), DONE
 
     # What is read alone: 17 ranks are refused at the second line.
     opened, closed = "when initial\n" * 64, "endwhen\n" * 64

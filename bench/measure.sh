@@ -42,7 +42,7 @@ for file in "$jobs"/*.job; do
     name=$(basename "$file" .job)
     case $name in
     check_*) modes=check ;;
-    plain_* | events_*) modes='run wire' ;;
+    plain_* | events_* | losses_*) modes='run wire' ;;
     *) modes=run ;;
     esac
     for mode in $modes; do
