@@ -1,4 +1,4 @@
-ghost use Rattle.std.specs.Prelude.{◌≡◌, ◌<◌, ◌++◌, ◌∷◌, [], length, ◌↔◌, IsTrue, IfOk, OnOk, OnErr, slice_get, slice_set};
+ghost use Rattle.std.specs.Prelude.{◌≡◌, ◌<◌, ◌++◌, ◌∷◌, [], length, ◌↔◌, IsTrue, IfOk, OnOk, OnErr, MatchOption, slice_get, slice_set};
 ghost use Rattle.std.specs.Option.{option_copied};
 
 use crate::copied::Copied;
@@ -59,6 +59,13 @@ impl<T> Seq<T> {
         ensures { result.now ≡ self.now }
     {
         self.items.as_slice()
+    }
+
+    /// Takes the last item out; `None` exactly where there is none. Its room is kept for the next one.
+    pub fn pop(&mut self) -> Option<T>
+        ensures { MatchOption result ((self.old ≡ []) × (self.new ≡ [])) (λ last. self.old ≡ self.new ++ last ∷ []) }
+    {
+        self.items.pop()
     }
 
     /// The items themselves, moved out of the list.

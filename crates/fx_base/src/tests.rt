@@ -18,7 +18,9 @@ fn bytes_grow_at_their_end(rt: HostRuntime) -> Result<(), Fail> {
     more.append(b"de")?;
     bytes.append_list(&mut more)?;
     assert_eq!(rt; bytes.as_slice(), b"abcde".as_slice());
-    assert!(rt; more.is_empty());
+    assert!(rt; more.is_empty() && more.pop().is_none());
+    assert_eq!(rt; bytes.pop(), Some(b'e'));
+    assert_eq!(rt; bytes.as_slice(), b"abcd".as_slice());
     bytes.clear();
     assert_eq!(rt; bytes.len(), 0);
     let items = copy.into_items();

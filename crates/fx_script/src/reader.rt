@@ -1,4 +1,6 @@
-ghost use Rattle.std.specs.Prelude.{◌≡◌, Some, ◌<◌, ◌-◌, ◌^◌, length};
+ghost use Rattle.std.specs.Prelude.{◌≡◌, Some, ◌<◌, ◌-◌, ◌^◌, not, length};
+ghost use Rattle.std.specs.List.{position};
+ghost use Rattle.fx_text.specs.Checks.{is_printable};
 ghost use Rattle.fx_script.specs.Outcome.{Gives};
 ghost use Rattle.fx_script.specs.Next.{word_of};
 ghost use Rattle.fx_script.specs.Reading.{sound, keyword_placed, said_by, taken, line_taken, at_line, reading};
@@ -14,7 +16,7 @@ use crate::order::may_stand;
 use crate::refusal::{JobFault, ReadJob, Stop, Wrong};
 use crate::statement::read_simple;
 use fx_base::Spot;
-use fx_text::{LONGEST_LINE, LineFault, check_line, next_line};
+use fx_text::{LONGEST_LINE, LineFault, LineSpan, check_line, next_line};
 use std::alloc::Global;
 
 /// Reads the lines of a text one after another, up to the first fault.
@@ -26,13 +28,7 @@ pub fn read_text(alloc: Global, text: &[u8]) -> Result<Draft, ReadJob>
     let mut number = 1u32;
     let mut at = 0;
     while let Some(line) = next_line(text, at) {
-        read_line(
-            alloc,
-            &mut draft,
-            number,
-            &text[line.from..line.to],
-            line.ended,
-        )?;
+        read_line(alloc, &mut draft, number, &text[line.from..line.to], line)?;
         number += 1;
         at = line.to + 1;
     }
@@ -48,19 +44,20 @@ pub fn read_text(alloc: Global, text: &[u8]) -> Result<Draft, ReadJob>
     }
 }
 
-// Reads the line of this number.
+// Reads the line of this number, whose bytes stand at that span of the text.
 fn read_line(
     alloc: Global,
     draft: &mut Draft,
     number: u32,
     line: &[u8],
-    ended: bool,
+    span: LineSpan,
 ) -> Result<(), ReadJob>
-    requires { length line.now < 2 ^ 32 - 1 }
+    requires short { length line.now < 2 ^ 32 - 1 }
+    requires bad { span.bad ≡ position (λ b. not (is_printable b)) line.now }
     ensures { Proceeds result draft.new
-        (at_line number (line_taken draft.old number (record { bytes = line.now; ended = ended }))) }
+        (at_line number (line_taken draft.old number (record { bytes = line.now; ended = span.ended }))) }
 {
-    match take_line(alloc, draft, number, line, ended) {
+    match take_line(alloc, draft, number, line, span) {
         Ok(()) => Ok(()),
         Err(Stop::NoMemory) => Err(ReadJob::NoMemory),
         Err(Stop::Wrong(wrong)) => Err(ReadJob::Refused(
@@ -78,12 +75,13 @@ fn take_line(
     draft: &mut Draft,
     number: u32,
     line: &[u8],
-    ended: bool,
+    span: LineSpan,
 ) -> Result<(), Stop>
-    requires { length line.now < 2 ^ 32 - 1 }
-    ensures { Advances result draft.new (line_taken draft.old number (record { bytes = line.now; ended = ended })) }
+    requires short { length line.now < 2 ^ 32 - 1 }
+    requires bad { span.bad ≡ position (λ b. not (is_printable b)) line.now }
+    ensures { Advances result draft.new (line_taken draft.old number (record { bytes = line.now; ended = span.ended })) }
 {
-    see_sound(line, ended)?;
+    see_sound(line, span)?;
     let mut cursor = Cursor::new(line);
     match cursor.next() {
         Some(first) if !first.is_comment() => take_met(alloc, draft, number, first, &mut cursor),
@@ -160,11 +158,12 @@ fn take_other(
 }
 
 // Sees that a line is printable, not too long, and has its line end.
-fn see_sound(line: &[u8], ended: bool) -> Result<(), Wrong>
-    requires { length line.now < 2 ^ 32 - 1 }
-    ensures { result ≡ sound (record { bytes = line.now; ended = ended }) }
+fn see_sound(line: &[u8], span: LineSpan) -> Result<(), Wrong>
+    requires short { length line.now < 2 ^ 32 - 1 }
+    requires bad { span.bad ≡ position (λ b. not (is_printable b)) line.now }
+    ensures { result ≡ sound (record { bytes = line.now; ended = span.ended }) }
 {
-    match check_line(line) {
+    match check_line(line, span.bad) {
         Err(LineFault::NotAscii(column)) => Err(Wrong {
             fault: JobFault::NotAscii,
             column,
@@ -173,7 +172,7 @@ fn see_sound(line: &[u8], ended: bool) -> Result<(), Wrong>
             fault: JobFault::LineTooLong,
             column: LONGEST_LINE as u32 + 1,
         }),
-        Ok(()) if !ended => Err(Wrong {
+        Ok(()) if !span.ended => Err(Wrong {
             fault: JobFault::BadLine,
             column: line.len() as u32 + 1,
         }),

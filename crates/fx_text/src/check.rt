@@ -14,29 +14,18 @@ pub enum LineFault {
     TooLong,
 }
 
-/// Whether a line, without its line end, has printable bytes alone and at most 1,024 of them.
-pub fn check_line(line: &[u8]) -> Result<(), LineFault>
-    requires { length line.now < 2 ^ 32 - 1 }
+/// Whether a line, without its line end, has printable bytes alone and at most 1,024 of them. `bad` is where its
+/// first byte stands that isn't printable, as `next_line` tells it.
+pub fn check_line(line: &[u8], bad: Option<usize>) -> Result<(), LineFault>
+    requires short { length line.now < 2 ^ 32 - 1 }
+    requires bad { bad ≡ position (λ b. not (is_printable b)) line.now }
     ensures { result ≡ checked line.now }
 {
-    if let Some(place) = bad_byte(line) {
+    if let Some(place) = bad {
         return Err(LineFault::NotAscii(place as u32 + 1));
     }
     if line.len() > LONGEST_LINE {
         return Err(LineFault::TooLong);
     }
     Ok(())
-}
-
-// Where the first bad byte is.
-fn bad_byte(line: &[u8]) -> Option<usize>
-    ensures { result ≡ position (λ b. not (is_printable b)) line.now }
-{
-    line.iter().position(|byte| !is_printable(*byte))
-}
-
-fn is_printable(byte: u8) -> bool
-    ensures { result ≡ is_printable byte }
-{
-    byte >= 32 && byte <= 126
 }

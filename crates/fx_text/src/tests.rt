@@ -4,10 +4,15 @@ use std::test::Fail;
 
 #[test]
 fn a_text_has_lines(rt: HostRuntime) {
-    let text = b"ab\n\nc";
-    let lines = [(0, 2, true), (3, 3, true), (4, 5, false)];
+    let text = b"ab\n\na\tb\x7f\nc";
+    let lines = [
+        (0, 2, true, None),
+        (3, 3, true, None),
+        (4, 8, true, Some(1)),
+        (9, 10, false, None),
+    ];
     let mut from = 0;
-    for (start, to, ended) in lines {
+    for (start, to, ended, bad) in lines {
         assert!(rt; from <= text.len());
         let line = next_line(text, from);
         assert_eq!(rt;
@@ -15,7 +20,8 @@ fn a_text_has_lines(rt: HostRuntime) {
             Some(LineSpan {
                 from: start,
                 to,
-                ended
+                ended,
+                bad
             })
         );
         from = if ended { to + 1 } else { to };
@@ -60,10 +66,10 @@ fn numbers_have_one_form(rt: HostRuntime) -> Result<(), Fail> {
 
 #[test]
 fn lines_are_checked(rt: HostRuntime) {
-    assert_eq!(rt; check_line(b"fenix 1"), Ok(()));
-    assert_eq!(rt; check_line(b"a\tb\n"), Err(LineFault::NotAscii(2)));
-    assert_eq!(rt; check_line(&[b'a'; 1024]), Ok(()));
-    assert_eq!(rt; check_line(&[b'a'; 1025]), Err(LineFault::TooLong));
+    assert_eq!(rt; check_line(b"fenix 1", None), Ok(()));
+    assert_eq!(rt; check_line(b"a\tb\n", Some(1)), Err(LineFault::NotAscii(2)));
+    assert_eq!(rt; check_line(&[b'a'; 1024], None), Ok(()));
+    assert_eq!(rt; check_line(&[b'a'; 1025], None), Err(LineFault::TooLong));
 }
 
 #[test]
