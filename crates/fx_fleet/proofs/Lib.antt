@@ -4,6 +4,7 @@ mod BarrierRow
 mod WireRow
 mod StepRows
 mod SpareRow
+mod FinalRow
 mod AgreementRow
 mod NumbersRow
 mod ClosingRow

@@ -1,5 +1,5 @@
 -- Single moments: to whom a join goes, that a node waits in a ballot, and that what comes early is kept.
-use Rattle.std.specs.Prelude.{◌≡◌, refl, true, List, [], ◌∷◌, is_none}
+use Rattle.std.specs.Prelude.{◌≡◌, refl, true, [], ◌∷◌, is_none}
 use Rattle.fx_base.specs.Sets.{those_below}
 use Rattle.fx_check.specs.Facts.{Facts}
 use Rattle.fx_comm.specs.Seats.{seats_from}

@@ -78,17 +78,6 @@ pub fn copied_array(alloc: Global, values: &Values, slot: usize) -> Result<Elems
     }
 }
 
-/// A copy of elements.
-pub fn elements_of(alloc: Global, elements: &[i64]) -> Result<Elems, NoMemory>
-    ensures { IfOk result (λ made. made ≡ elements.now) }
-{
-    let mut made = Elems::new(alloc);
-    for element in elements {
-        made.push(*element)?;
-    }
-    Ok(made)
-}
-
 fn combined(op: Op, one: i64, other: i64) -> i64
     ensures { result ≡ combined op one other }
 {

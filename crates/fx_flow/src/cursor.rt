@@ -10,15 +10,17 @@ ghost use Rattle.fx_flow.specs.Loops.{is_open};
 ghost use Rattle.fx_flow.specs.Stands.{moved_to};
 ghost use Rattle.fx_flow.specs.Outward.{takes_elements, takes_entries, takes_number};
 
-use crate::asking::{copied_array, elements_of};
+use crate::asking::copied_array;
 use crate::instr::{Loop, Variable};
 use crate::loops::Loops;
+use crate::room::{name_in, no_print, number_in};
 use fx_base::{Bytes, Elems, NoMemory, Role, Sparse};
 use fx_script::{Decl, Test};
 use fx_value::{Columns, Formula, Values};
 use fx_walk::{Printed, View};
 use std::alloc::Global;
 use std::marker::Model;
+use std::mem;
 
 /// Where a rank stands in flat code, with what it keeps. It is seen as its stand.
 #[derive(Debug, Drop)]
@@ -27,6 +29,8 @@ pub struct Cursor {
     loops: Loops,
     values: Values,
     columns: Columns,
+    // what was printed last, as room for the next print
+    room: Printed,
 }
 
 impl Model for Cursor {
@@ -50,6 +54,7 @@ impl Cursor {
             loops: Loops::new(alloc),
             values: Values::new(alloc, names)?,
             columns: Columns::new(alloc),
+            room: no_print(alloc),
         })
     }
 
@@ -145,21 +150,33 @@ impl Cursor {
 
     /// What is printed of an array or a counter.
     pub fn printed(
-        &self,
+        &mut self,
         alloc: Global,
         name: &Bytes,
         variable: Variable,
     ) -> Result<Printed, NoMemory>
-        ensures { IfOk result (λ printed. printed ≡ record { name = name.now; values = values_at self.now.state variable }) }
+        ensures printed { IfOk result (λ printed. printed ≡ record { name = name.now; values = values_at self.old.state variable }) }
+        ensures same { self.new ≡ self.old }
     {
+        let Printed {
+            name: text,
+            values: elements,
+        } = mem::replace(&mut self.room, no_print(alloc));
         let values = match variable {
             Variable::Array(slot) => copied_array(alloc, &self.values, slot)?,
-            Variable::Counter(slot) => elements_of(alloc, &[self.values.counter(slot)])?,
+            Variable::Counter(slot) => number_in(elements, self.values.counter(slot))?,
         };
         Ok(Printed {
-            name: name.copy()?,
+            name: name_in(text, name)?,
             values,
         })
+    }
+
+    /// Takes back what was printed, as room for the next print.
+    pub fn give_back(&mut self, printed: Printed)
+        ensures { self.new ≡ self.old }
+    {
+        self.room = printed;
     }
 
     pub fn enter(&mut self, view: &View, role: Role, inside: usize, next: usize)

@@ -130,6 +130,13 @@ impl Flow {
         self.act(view)
     }
 
+    /// Takes back what was printed, once nobody needs it: its room is used again by the next print.
+    pub fn give_back(&mut self, printed: Printed)
+        ensures { self.new ≡ self.old }
+    {
+        self.cursor.give_back(printed);
+    }
+
     /// What the outward statement that must come next asks, with the values of its operands: exactly
     /// what the walk asks.
     pub fn wanted(&self, view: &View) -> Result<Wanted, NoMemory>

@@ -9,6 +9,7 @@ mod instr;
 pub mod laws;
 mod loops;
 mod operands;
+mod room;
 mod selection;
 
 pub use flow::Flow;

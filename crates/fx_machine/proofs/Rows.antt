@@ -9,6 +9,7 @@ use Rattle.fx_store.specs.Packed.{text_in, sections_in}
 use Rattle.fx_walk.specs.State.{State}
 use Rattle.fx_walk.specs.Walk.{Walk, Ends, Asks, stamp_at}
 use Rattle.fx_walk.specs.declared.wanted.Wanted.TheVariants as wanted
+use Rattle.fx_machine.specs.Ballots.{is_end}
 use Rattle.fx_machine.specs.Calls.{in_asked_call}
 use Rattle.fx_machine.specs.Closing.{kept_shares}
 use Rattle.fx_machine.specs.Creating.{Creation, creation, give_heard, known_at, own_snapshots}
@@ -73,6 +74,19 @@ joins_3 = refl
 -- `start` is a vote in epoch 1 alone, and of two joins that fit the first is read
 first_that_fits : vote_of (next_ballot (creating [])) (creating (Join 3 slot.Start ∷ Join 3 slot.Error ∷ Join 3 slot.Final ∷ [])) 1 ≡ Some slot.Error
 first_that_fits = refl
+
+-- ---- the end
+
+-- epoch 0 is never the end, whatever the members voted
+no_end_at_0 : is_end (record (creating []) { epoch = 0 }) (slot.Final ∷ slot.Final ∷ []) ≡ false
+no_end_at_0 = refl
+
+-- later ones are where each process with a place voted `final`
+all_are_final : is_end (creating []) (slot.Final ∷ slot.Final ∷ []) ≡ true
+all_are_final = refl
+
+one_is_lost : is_end (creating []) (slot.Final ∷ slot.Lost ∷ []) ≡ false
+one_is_lost = refl
 
 -- ---- creations
 

@@ -1,11 +1,10 @@
 -- What statements and returns do to a group is what the calls of a store do to its store.
-use Rattle.std.proofs.Common.{arith, ◌≡◌, ℕ, suc, ◌+◌, ◌-◌, Bool, true, false, not, List, [], ◌∷◌, ◌++◌, map, length, drop, refl, sym, ap, ◌∙◌}
+use Rattle.std.proofs.Common.{arith, ◌≡◌, ℕ, suc, ◌+◌, ◌-◌, Bool, true, false, not, List, [], ◌∷◌, ◌++◌, length, drop, refl, sym, ap, ◌∙◌}
 use Rattle.std.specs.Ordering.{int_eq}
 use Rattle.std.specs.Prelude.{if◌then◌else◌, ℤ, pos, ◌+ℤ◌, ◌-ℤ◌}
 use Rattle.std.specs.FinMap as finite
 use Rattle.std.proofs.lemmas.Int.{ints}
 use Rattle.std.proofs.lemmas.List.{drop-map, length-map, map-append}
-use Rattle.fx_base.specs.declared.names.Stamp.{Stamp}
 use Rattle.fx_store.specs.Store as store
 use Rattle.fx_store.specs.Store.{Stamped}
 use Rattle.fx_walk.specs.Walk.{stamp_at}

@@ -30,7 +30,7 @@ ghost use Rattle.fx_walk.specs.declared.action.View.{View as Sight};
 ghost use Rattle.std.specs.List.{flat_map};
 
 use crate::stage::Stage;
-use fx_base::{Bytes, Epoch, NoMemory, Place, Proc, ProcSet, Role, Seq};
+use fx_base::{Bytes, Elems, Epoch, NoMemory, Place, Proc, ProcSet, Role, Seq};
 use fx_check::Accepted;
 use fx_comm::{Comm, first, repair};
 use fx_flow::{At, Called, Flow, Printed, View};
@@ -201,6 +201,13 @@ impl Node {
         ensures { (job : Job) (n : defined.Node) → IsNodeOf job self.now n → result ≡ n.lost who.0 }
     {
         self.inbox.is_lost(who.0)
+    }
+
+    /// Takes back what a print of it told, once that is written: its room is used again by the next print.
+    pub fn give_back(&mut self, name: Bytes, values: Elems)
+        ensures { self.new ≡ self.old }
+    {
+        self.flow.give_back(Printed { name, values });
     }
 
     fn act(&mut self, sends: &mut Outbox, items: &mut Items) -> Result<Moved, NoMemory>

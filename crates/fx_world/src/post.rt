@@ -9,7 +9,7 @@ ghost use Rattle.fx_node.specs.Stepping.{Steps};
 ghost use Rattle.fx_script.specs.declared.job.Job.{Job};
 ghost use Rattle.fx_world.specs.Standings.{IsOneOf, IsPost, Passes};
 
-use fx_base::{NoMemory, Proc};
+use fx_base::{Bytes, Elems, NoMemory, Proc};
 use fx_item::Items;
 use fx_link::Message;
 use fx_node::{Moved, Node, Outbox};
@@ -81,6 +81,15 @@ impl Post {
             return Ok(Moved::Ended);
         };
         node.step(sends, items)
+    }
+
+    /// The process takes back what a print of it told. One that was killed takes nothing.
+    pub(crate) fn give_back(&mut self, name: Bytes, values: Elems)
+        ensures { self.new ≡ self.old }
+    {
+        if let Some(node) = &mut self.node {
+            node.give_back(name, values);
+        }
     }
 
     /// A message comes to the process. It is dropped where the process was killed.

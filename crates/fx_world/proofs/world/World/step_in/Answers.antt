@@ -1,5 +1,4 @@
-use Rattle.std.proofs.Common.{◌≡◌, ◌<◌, ◌++◌, arith, map, refl, subst, sym, true, ◌∙◌}
-use Rattle.std.proofs.lemmas.Bool.Decides.{nat_tests}
+use Rattle.std.proofs.Common.{◌≡◌, ◌<◌, ◌++◌, map, refl, subst, sym, true}
 use Rattle.std.proofs.lemmas.List.Elements.{All-nil}
 use Rattle.std.proofs.lemmas.Result.{err_from_is_err_and}
 use Rattle.fx_base.specs.declared.names.Proc.{Proc}
@@ -21,7 +20,7 @@ use Rattle.fx_world.proofs.world.World.step_in.Goals as goal
 pub invariant_of-self : goal.invariant_of-self
 invariant_of-self g c =
     let before = the_view c.self.inside in
-    let p_in = subst (λ (s : Standings). c.args.p.0 < s.procs) (sym c.self.view_is) c.requires in
+    let p_in = subst (λ (s : Standings). c.args.p.0 < s.procs) (sym c.self.view_is) c.requires.there in
     same_links_sound before c.from.result c.step.new.self c.self.invariant
     (c.step.ensures.of_all before.procs (rw (post_is before c.self.invariant c.from.result c.args.p.0 c.from.ensures p_in c.index_mut.result.now c.index_mut.ensures.value) (one_of before c.args.p.0 c.self.invariant p_in)))
 
@@ -33,63 +32,59 @@ returns-in_err-step-clause-goes g c =
 pub invariant_of-self-in-Acted : goal.invariant_of-self-in-Acted
 invariant_of-self-in-Acted g c =
     let before = the_view c.self.inside in
-    let p_in = subst (λ (s : Standings). c.args.p.0 < s.procs) (sym c.self.view_is) c.requires in
+    let p_in = subst (λ (s : Standings). c.args.p.0 < s.procs) (sym c.self.view_is) c.requires.there in
     same_links_sound before c.from.result c.step.new.self c.self.invariant
     (c.step.ensures.of_all before.procs (rw (post_is before c.self.invariant c.from.result c.args.p.0 c.from.ensures p_in c.index_mut.result.now c.index_mut.ensures.value) (one_of before c.args.p.0 c.self.invariant p_in)))
 
 pub returns-in_err-carry_out-in-Acted-clause-goes : goal.returns-in_err-carry_out-in-Acted-clause-goes
 returns-in_err-carry_out-in-Acted-clause-goes g c =
     let before = the_view c.self.inside in
-    let p_in = subst (λ (s : Standings). c.args.p.0 < s.procs) (sym c.self.view_is) c.requires in
-    let on : c.is_up.result ≡ true = grind (arith, nat_tests, c.if-not-is_up.false) in
+    let p_in = subst (λ (s : Standings). c.args.p.0 < s.procs) (sym c.self.view_is) c.requires.there in
     let post = post_is before c.self.invariant c.from.result c.args.p.0 c.from.ensures p_in c.index_mut.result.now c.index_mut.ensures.value in
     let passes = rw (post, c.new-sends.ensures, c.clear.ensures, c.in-Acted.is) at c.in_ok-step.ensures.steps in
     let act = λ (job : Job) (w : World) (plain : AsksNothing job) (is : IsWorldOf job before w) (is_on : up (job_setup job) w c.args.p.0 ≡ true). taken job before w c.args.p.0 c.step.new.self c.step.new.sends c.step.new.items is p_in plain is_on passes in
     let p = err_from_is_err_and c.from_residual-in_err-carry_out-in-Acted.result c.from_residual-in_err-carry_out-in-Acted.ensures.1 in
     rw (← c.self.view_is, p.1, p.2) (is_cut _ before _ c.args.shown _ _ (stepping c.args.p.0) (c.step.new.items ++ map (sent_item c.args.p) c.step.new.sends) c.in_err-carry_out-in-Acted.field-0.0 (rw c.as_slice.ensures at c.in_err-carry_out-in-Acted.ensures.writes)
     (λ job w plain is.
-    let is_on = sym (c.is_up.ensures.world job w (subst (λ (s : Standings). IsWorldOf job s w) c.self.view_is is)) ∙ on in
+    let is_on = c.requires.is_up job w (subst (λ (s : Standings). IsWorldOf job s w) c.self.view_is is) in
     step_begins job w c.args.p c.step.new.self c.step.new.sends c.step.new.items (act job w plain is is_on) is_on))
 
 pub invariant_of-self-in-Quiet-1 : goal.invariant_of-self-in-Quiet-1
 invariant_of-self-in-Quiet-1 g c =
     let before = the_view c.self.inside in
-    let p_in = subst (λ (s : Standings). c.args.p.0 < s.procs) (sym c.self.view_is) c.requires in
+    let p_in = subst (λ (s : Standings). c.args.p.0 < s.procs) (sym c.self.view_is) c.requires.there in
     same_links_sound before c.from.result c.step.new.self c.self.invariant
     (c.step.ensures.of_all before.procs (rw (post_is before c.self.invariant c.from.result c.args.p.0 c.from.ensures p_in c.index_mut.result.now c.index_mut.ensures.value) (one_of before c.args.p.0 c.self.invariant p_in)))
 
 pub returns-in_ok-carry_out-in-Acted-clause-goes : goal.returns-in_ok-carry_out-in-Acted-clause-goes
 returns-in_ok-carry_out-in-Acted-clause-goes g c =
     let before = the_view c.self.inside in
-    let p_in = subst (λ (s : Standings). c.args.p.0 < s.procs) (sym c.self.view_is) c.requires in
-    let on : c.is_up.result ≡ true = grind (arith, nat_tests, c.if-not-is_up.false) in
+    let p_in = subst (λ (s : Standings). c.args.p.0 < s.procs) (sym c.self.view_is) c.requires.there in
     let post = post_is before c.self.invariant c.from.result c.args.p.0 c.from.ensures p_in c.index_mut.result.now c.index_mut.ensures.value in
     let passes = rw (post, c.new-sends.ensures, c.clear.ensures, c.in-Acted.is) at c.in_ok-step.ensures.steps in
     let act = λ (job : Job) (w : World) (plain : AsksNothing job) (is : IsWorldOf job before w) (is_on : up (job_setup job) w c.args.p.0 ≡ true). taken job before w c.args.p.0 c.step.new.self c.step.new.sends c.step.new.items is p_in plain is_on passes in
     let receivers = c.in_ok-step.ensures.to_processes before.procs (rw post (one_of before c.args.p.0 c.self.invariant p_in)) (rw c.new-sends.ensures (All-nil (λ (x : Proc × Message). x.0.0 < before.procs))) in
     rw (← c.self.view_is) (does_and_tells _ _ before _ c.args.shown _ _ (stepping c.args.p.0) (c.step.new.items ++ map (sent_item c.args.p) c.step.new.sends) (rw c.as_slice.ensures at c.in_ok-carry_out-in-Acted.ensures.writes) (rw c.as_slice.ensures at c.in_ok-carry_out-in-Acted.ensures.counts)
     (λ job w plain is.
-    let is_on = sym (c.is_up.ensures.world job w (subst (λ (s : Standings). IsWorldOf job s w) c.self.view_is is)) ∙ on in
+    let is_on = c.requires.is_up job w (subst (λ (s : Standings). IsWorldOf job s w) c.self.view_is is) in
     all_did job before c.carry_out.new.self w c.args.p c.from.result c.step.new.self c.step.new.sends c.step.new.items c.self.invariant is p_in c.from.ensures (act job w plain is is_on) is_on receivers (c.in_ok-carry_out-in-Acted.ensures.links job)))
 
 pub returns-in_ok-carry_out-in-Acted-clause-acts : goal.returns-in_ok-carry_out-in-Acted-clause-acts
 returns-in_ok-carry_out-in-Acted-clause-acts g c =
     let before = the_view c.self.inside in
-    let p_in = subst (λ (s : Standings). c.args.p.0 < s.procs) (sym c.self.view_is) c.requires in
-    let on : c.is_up.result ≡ true = grind (arith, nat_tests, c.if-not-is_up.false) in
+    let p_in = subst (λ (s : Standings). c.args.p.0 < s.procs) (sym c.self.view_is) c.requires.there in
     let post = post_is before c.self.invariant c.from.result c.args.p.0 c.from.ensures p_in c.index_mut.result.now c.index_mut.ensures.value in
     let passes = rw (post, c.new-sends.ensures, c.clear.ensures, c.in-Acted.is) at c.in_ok-step.ensures.steps in
     let act = λ (job : Job) (w : World) (plain : AsksNothing job) (is : IsWorldOf job before w) (is_on : up (job_setup job) w c.args.p.0 ≡ true). taken job before w c.args.p.0 c.step.new.self c.step.new.sends c.step.new.items is p_in plain is_on passes in
     λ job w plain is.
     let is_it = subst (λ (s : Standings). IsWorldOf job s w) (sym c.self.view_is) is in
-    let is_on = sym (c.is_up.ensures.world job w is) ∙ on in
+    let is_on = c.requires.is_up job w is in
     not_quiet job w c.args.p c.step.new.self c.step.new.sends c.step.new.items (act job w plain is_it is_on) is_on
 
 pub returns-in-Quiet : goal.returns-in-Quiet
 returns-in-Quiet g c =
     let before = the_view c.self.inside in
-    let p_in = subst (λ (s : Standings). c.args.p.0 < s.procs) (sym c.self.view_is) c.requires in
-    let on : c.is_up.result ≡ true = grind (arith, nat_tests, c.if-not-is_up.false) in
+    let p_in = subst (λ (s : Standings). c.args.p.0 < s.procs) (sym c.self.view_is) c.requires.there in
     let post = post_is before c.self.invariant c.from.result c.args.p.0 c.from.ensures p_in c.index_mut.result.now c.index_mut.ensures.value in
     let passes = rw (post, c.new-sends.ensures, c.clear.ensures) at c.in_ok-step.ensures.steps in
     let other = rests_now c.in_ok-step.field-0 c.in-Quiet.is in
@@ -97,12 +92,12 @@ returns-in-Quiet g c =
     record {
       goes = rw (← c.self.view_is) (passes_over _ _ before _ c.args.shown _ (stepping c.args.p.0) refl
           (λ job w plain is.
-          let is_on = sym (c.is_up.ensures.world job w (subst (λ (s : Standings). IsWorldOf job s w) c.self.view_is is)) ∙ on in
+          let is_on = c.requires.is_up job w (subst (λ (s : Standings). IsWorldOf job s w) c.self.view_is is) in
           let quiet = wait job w plain is is_on in
           (no_step job w c.args.p.0 c.step.new.self quiet is_on, waits_on job w c.args.p.0 c.step.new.self quiet is_on before c.from.result c.self.invariant is p_in c.from.ensures)));
       acts = λ job w plain is.
           let is_it = subst (λ (s : Standings). IsWorldOf job s w) (sym c.self.view_is) is in
-          let is_on = sym (c.is_up.ensures.world job w is) ∙ on in
+          let is_on = c.requires.is_up job w is in
           is_quiet_now job w c.args.p.0 c.step.new.self (wait job w plain is_it is_on) is_on;
       of_all = rw (← c.self.view_is) record { procs = refl; fuel = refl };
     }
