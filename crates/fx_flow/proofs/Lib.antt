@@ -4,6 +4,7 @@ pub mod Emitted
 pub mod Made
 pub mod Asks
 pub mod Selected
+pub mod Slots
 pub mod Turns
 pub mod Went
 pub mod Kept

@@ -10,10 +10,9 @@ ghost use Rattle.fx_flow.specs.Loops.{is_open};
 ghost use Rattle.fx_flow.specs.Stands.{moved_to};
 ghost use Rattle.fx_flow.specs.Outward.{takes_elements, takes_entries, takes_number};
 
-use crate::asking::copied_array;
 use crate::instr::{Loop, Variable};
 use crate::loops::Loops;
-use crate::room::{name_in, no_print, number_in};
+use crate::room::{array_in, name_in, no_print, number_in};
 use fx_base::{Bytes, Elems, NoMemory, Role, Sparse};
 use fx_script::{Decl, Test};
 use fx_value::{Columns, Formula, Values};
@@ -163,7 +162,7 @@ impl Cursor {
             values: elements,
         } = mem::replace(&mut self.room, no_print(alloc));
         let values = match variable {
-            Variable::Array(slot) => copied_array(alloc, &self.values, slot)?,
+            Variable::Array(slot) => array_in(elements, &self.values, slot)?,
             Variable::Counter(slot) => number_in(elements, self.values.counter(slot))?,
         };
         Ok(Printed {
