@@ -2,7 +2,7 @@ ghost use Rattle.std.specs.Prelude.{◌<◌, length, IfOk};
 
 use fx_base::{Bytes, Role};
 use fx_check::{Accepted, check_job};
-use fx_flow::{At, Flow, Printed, View};
+use fx_flow::{At, Called, Flow, Printed, View};
 use fx_script::read_job;
 use std::alloc::Global;
 use std::process::Abort;
@@ -32,22 +32,33 @@ fn survivors_run_their_callbacks(rt: HostRuntime) -> Result<(), Fail> {
     let mut flow = Flow::new(rt.alloc(), &job)?;
     let first = printed(rt.alloc(), &mut flow, &seen(Role::Initial))?;
     assert_eq!(rt; first.as_str(), "");
-    for (role, count, text) in [
-        (Role::Survivor, 1, "a 1 1 1"),
-        (Role::Survivor, 1, "a 2 2 2"),
-        (Role::Recovered, 0, ""),
+    for (role, text) in [
+        (Role::Survivor, "f: a 1 1 1"),
+        (Role::Survivor, "f: a 2 2 2"),
+        (Role::Recovered, ""),
     ] {
-        flow.rewind(role);
-        let run = flow.run_callbacks(&seen(role))?;
-        assert_eq!(rt; run.len(), count);
-        let mut told = String::new(rt.alloc());
-        for called in run.as_slice() {
-            assert_eq!(rt; called.name.as_slice(), b"f".as_slice());
-            for printed in called.prints.as_slice() {
-                add(rt.alloc(), &mut told, printed)?;
-            }
-        }
+        let told = told_behind(rt.alloc(), &mut flow, role)?;
         assert_eq!(rt; told.as_str(), text);
+    }
+    Ok(())
+}
+
+// What the callbacks of a flow print that goes back to the beginning of its body.
+fn told_behind(alloc: Global, flow: &mut Flow, role: Role) -> Result<String, Fail> {
+    flow.rewind(role);
+    let run = flow.run_callbacks(&seen(role))?;
+    let mut text = String::new(alloc);
+    for called in run.as_slice() {
+        add_called(alloc, &mut text, called)?;
+    }
+    Ok(text)
+}
+
+fn add_called(alloc: Global, text: &mut String, called: &Called) -> Result<(), Fail> {
+    add_name(text, &called.name)?;
+    text.push_str(": ")?;
+    for printed in called.prints.as_slice() {
+        add(alloc, text, printed)?;
     }
     Ok(())
 }
@@ -69,14 +80,16 @@ fn printed(alloc: Global, flow: &mut Flow, view: &View) -> Result<String, Fail> 
     Ok(text)
 }
 
-// Adds a name and its values.
-fn add(alloc: Global, text: &mut String, printed: &Printed) -> Result<(), Fail> {
-    if !text.is_empty() {
-        text.push_str(", ")?;
-    }
-    for byte in printed.name.as_slice() {
+fn add_name(text: &mut String, name: &Bytes) -> Result<(), Fail> {
+    for byte in name.as_slice() {
         text.push(char::from(*byte))?;
     }
+    Ok(())
+}
+
+// Adds a name and its values.
+fn add(alloc: Global, text: &mut String, printed: &Printed) -> Result<(), Fail> {
+    add_name(text, &printed.name)?;
     for value in printed.values.as_slice() {
         let value = format!(in alloc; " {value}")?;
         text.push_str(value.as_str())?;

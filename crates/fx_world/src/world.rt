@@ -406,6 +406,17 @@ impl World {
         if !self.is_up(p) {
             return Ok(false);
         }
+        self.take_step(p, shown, sink)
+    }
+
+    // A process that is up takes a step.
+    fn take_step<K: Sink>(&mut self, p: Proc, shown: Shown, sink: &mut K) -> Result<bool, RunEnd>
+        requires there { p.0 < self.old.procs }
+        requires is_up { (job : Job) (w : defined.World) → IsWorldOf job self.old w → up (job_setup job) w p.0 ≡ true }
+        ensures goes { Goes _ self.old self.new shown (K.state sink.old) (K.state sink.new) (stepping p.0) result }
+        ensures acts { IfOk result (λ acted. (job : Job) (w : defined.World) → AsksNothing job → IsWorldOf job self.old w → acted ≡ not (is_quiet (job_setup job) p.0 w)) }
+        ensures of_all { IsOfSame self.old self.new }
+    {
         let mut items = mem::replace(&mut self.items, Items::new(self.alloc));
         let end = self.step_in(p, &mut items, shown, sink);
         self.give_back(p, &mut items);
@@ -413,17 +424,7 @@ impl World {
         end
     }
 
-    // What the last item told goes back to the process, if it was a print.
-    fn give_back(&mut self, p: Proc, items: &mut Items)
-        requires { p.0 < self.old.procs }
-        ensures { self.new ≡ self.old }
-    {
-        if let Some(Item::Print { name, list, .. }) = items.pop() {
-            self.posts[usize::from(p.0)].give_back(name, list);
-        }
-    }
-
-    // A process that is up takes a step, with room for its items.
+    // The same, with room for its items.
     fn step_in<K: Sink>(
         &mut self,
         p: Proc,
@@ -445,6 +446,16 @@ impl World {
                 Ok(true)
             }
             Moved::Quiet | Moved::Ended => Ok(false),
+        }
+    }
+
+    // What the last item told goes back to the process, if it was a print.
+    fn give_back(&mut self, p: Proc, items: &mut Items)
+        requires { p.0 < self.old.procs }
+        ensures { self.new ≡ self.old }
+    {
+        if let Some(Item::Print { name, list, .. }) = items.pop() {
+            self.posts[usize::from(p.0)].give_back(name, list);
         }
     }
 
