@@ -417,32 +417,14 @@ impl World {
         ensures acts { IfOk result (λ acted. (job : Job) (w : defined.World) → AsksNothing job → IsWorldOf job self.old w → acted ≡ not (is_quiet (job_setup job) p.0 w)) }
         ensures of_all { IsOfSame self.old self.new }
     {
-        let mut items = mem::replace(&mut self.items, Items::new(self.alloc));
-        let end = self.step_in(p, &mut items, shown, sink);
-        self.give_back(p, &mut items);
-        self.items = items;
-        end
-    }
-
-    // The same, with room for its items.
-    fn step_in<K: Sink>(
-        &mut self,
-        p: Proc,
-        items: &mut Items,
-        shown: Shown,
-        sink: &mut K,
-    ) -> Result<bool, RunEnd>
-        requires there { p.0 < self.old.procs }
-        requires is_up { (job : Job) (w : defined.World) → IsWorldOf job self.old w → up (job_setup job) w p.0 ≡ true }
-        ensures goes { Goes _ self.old self.new shown (K.state sink.old) (K.state sink.new) (stepping p.0) result }
-        ensures acts { IfOk result (λ acted. (job : Job) (w : defined.World) → AsksNothing job → IsWorldOf job self.old w → acted ≡ not (is_quiet (job_setup job) p.0 w)) }
-        ensures of_all { IsOfSame self.old self.new }
-    {
         let mut sends = Outbox::new(self.alloc);
-        items.clear();
-        match self.posts[usize::from(p.0)].step(&mut sends, items)? {
+        self.items.clear();
+        match self.posts[usize::from(p.0)].step(&mut sends, &mut self.items)? {
             Moved::Acted => {
+                let mut items = mem::replace(&mut self.items, Items::new(self.alloc));
                 self.carry_out(p, items.as_slice(), sends, shown, sink)?;
+                self.give_back(p, &mut items);
+                self.items = items;
                 Ok(true)
             }
             Moved::Quiet | Moved::Ended => Ok(false),

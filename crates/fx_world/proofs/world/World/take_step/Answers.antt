@@ -1,4 +1,4 @@
-use Rattle.std.proofs.Common.{◌≡◌, ◌<◌, ◌++◌, map, refl, subst, sym, true}
+use Rattle.std.proofs.Common.{Bool, Ok, ◌∙◌, ◌≡◌, ◌<◌, ◌++◌, map, refl, subst, sym, true}
 use Rattle.std.proofs.lemmas.List.Elements.{All-nil}
 use Rattle.std.proofs.lemmas.Result.{err_from_is_err_and}
 use Rattle.fx_base.specs.declared.names.Proc.{Proc}
@@ -7,7 +7,7 @@ use Rattle.fx_fleet.specs.World.{World, up}
 use Rattle.fx_script.specs.declared.job.Job.{Job}
 use Rattle.fx_link.specs.declared.message.Message.{Message}
 use Rattle.fx_world.specs.contracts.world.World.{the_view}
-use Rattle.fx_world.specs.Goes.{stepping}
+use Rattle.fx_world.specs.Goes.{Goes, stepping}
 use Rattle.fx_world.specs.Sends.{sent_item}
 use Rattle.fx_world.specs.Standings.{IsWorldOf, Standings}
 use Rattle.fx_world.proofs.Going.{does_and_tells, gives_up_at_once, is_cut, passes_over}
@@ -15,7 +15,7 @@ use Rattle.fx_world.proofs.Grows.{step_adds}
 use Rattle.fx_world.proofs.Related.{one_of}
 use Rattle.fx_world.proofs.Singles.{post_is, same_links_sound}
 use Rattle.fx_world.proofs.Stepping.{all_did, is_quiet_now, no_step, not_quiet, rests_now, step_begins, taken, waits, waits_on}
-use Rattle.fx_world.proofs.world.World.step_in.Goals as goal
+use Rattle.fx_world.proofs.world.World.take_step.Goals as goal
 
 pub invariant_of-self : goal.invariant_of-self
 invariant_of-self g c =
@@ -44,7 +44,7 @@ returns-in_err-carry_out-in-Acted-clause-goes g c =
     let passes = rw (post, c.new-sends.ensures, c.clear.ensures, c.in-Acted.is) at c.in_ok-step.ensures.steps in
     let act = λ (job : Job) (w : World) (plain : AsksNothing job) (is : IsWorldOf job before w) (is_on : up (job_setup job) w c.args.p.0 ≡ true). taken job before w c.args.p.0 c.step.new.self c.step.new.sends c.step.new.items is p_in plain is_on passes in
     let p = err_from_is_err_and c.from_residual-in_err-carry_out-in-Acted.result c.from_residual-in_err-carry_out-in-Acted.ensures.1 in
-    rw (← c.self.view_is, p.1, p.2) (is_cut _ before _ c.args.shown _ _ (stepping c.args.p.0) (c.step.new.items ++ map (sent_item c.args.p) c.step.new.sends) c.in_err-carry_out-in-Acted.field-0.0 (rw c.as_slice.ensures at c.in_err-carry_out-in-Acted.ensures.writes)
+    rw (← c.self.view_is, p.1, p.2) (is_cut _ before _ c.args.shown _ _ (stepping c.args.p.0) (c.step.new.items ++ map (sent_item c.args.p) c.step.new.sends) c.in_err-carry_out-in-Acted.field-0.0 (rw (c.as_slice.ensures, c.replace-items.ensures.value) at c.in_err-carry_out-in-Acted.ensures.writes)
     (λ job w plain is.
     let is_on = c.requires.is_up job w (subst (λ (s : Standings). IsWorldOf job s w) c.self.view_is is) in
     step_begins job w c.args.p c.step.new.self c.step.new.sends c.step.new.items (act job w plain is is_on) is_on))
@@ -64,10 +64,11 @@ returns-in_ok-carry_out-in-Acted-clause-goes g c =
     let passes = rw (post, c.new-sends.ensures, c.clear.ensures, c.in-Acted.is) at c.in_ok-step.ensures.steps in
     let act = λ (job : Job) (w : World) (plain : AsksNothing job) (is : IsWorldOf job before w) (is_on : up (job_setup job) w c.args.p.0 ≡ true). taken job before w c.args.p.0 c.step.new.self c.step.new.sends c.step.new.items is p_in plain is_on passes in
     let receivers = c.in_ok-step.ensures.to_processes before.procs (rw post (one_of before c.args.p.0 c.self.invariant p_in)) (rw c.new-sends.ensures (All-nil (λ (x : Proc × Message). x.0.0 < before.procs))) in
-    rw (← c.self.view_is) (does_and_tells _ _ before _ c.args.shown _ _ (stepping c.args.p.0) (c.step.new.items ++ map (sent_item c.args.p) c.step.new.sends) (rw c.as_slice.ensures at c.in_ok-carry_out-in-Acted.ensures.writes) (rw c.as_slice.ensures at c.in_ok-carry_out-in-Acted.ensures.counts)
+    let after : the_view c.self-in-Acted.inside ≡ c.carry_out.new.self = c.self-in-Acted.view_is ∙ c.give_back.ensures in
+    rw (← c.self.view_is) (subst (λ (s : Standings). Goes Bool before s c.args.shown (g.K.Sink.state c.args.sink.now) (g.K.Sink.state c.carry_out.new.sink) (stepping c.args.p.0) (Ok true)) (sym after) (does_and_tells _ _ before _ c.args.shown _ _ (stepping c.args.p.0) (c.step.new.items ++ map (sent_item c.args.p) c.step.new.sends) (rw (c.as_slice.ensures, c.replace-items.ensures.value) at c.in_ok-carry_out-in-Acted.ensures.writes) (rw (c.as_slice.ensures, c.replace-items.ensures.value) at c.in_ok-carry_out-in-Acted.ensures.counts)
     (λ job w plain is.
     let is_on = c.requires.is_up job w (subst (λ (s : Standings). IsWorldOf job s w) c.self.view_is is) in
-    all_did job before c.carry_out.new.self w c.args.p c.from.result c.step.new.self c.step.new.sends c.step.new.items c.self.invariant is p_in c.from.ensures (act job w plain is is_on) is_on receivers (c.in_ok-carry_out-in-Acted.ensures.links job)))
+    all_did job before c.carry_out.new.self w c.args.p c.from.result c.step.new.self c.step.new.sends c.step.new.items c.self.invariant is p_in c.from.ensures (act job w plain is is_on) is_on receivers (c.in_ok-carry_out-in-Acted.ensures.links job))))
 
 pub returns-in_ok-carry_out-in-Acted-clause-acts : goal.returns-in_ok-carry_out-in-Acted-clause-acts
 returns-in_ok-carry_out-in-Acted-clause-acts g c =
