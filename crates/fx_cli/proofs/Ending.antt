@@ -21,7 +21,7 @@ use Rattle.fx_cli.specs.declared.status.Status.{Status}
 use Rattle.fx_cli.specs.declared.status.Status.TheVariants.{Done, BadWords, BadJob, ReadFault, WriteFault, NoMemory, Unfinished}
 use Rattle.fx_cli.specs.Built.{first_unbuilt}
 use Rattle.fx_cli.specs.Dues.{longest_job, mode_of, Input, WrongWords, TooLong, Whole, IsInput, Due, input_in, input_of, due_to, due_to_reading, due_to_job, due_to_accepted, due_to_world, is_left_unfinished}
-use Rattle.fx_cli.specs.Ends.{Answered, Settles, Ends, Takes, IsWholeRun, IsRun, IsWired, IsCheck, DoesWhatIsAsked, AsksRun, IsUnbuilt, IsGiven, IsUnlessCut, IsDoneUnlessCut}
+use Rattle.fx_cli.specs.Ends.{Answered, Settles, Ends, Takes, IsWholeRun, IsRun, IsWired, IsCheck, DoesWhatIsAsked, IsUnbuilt, IsGiven, IsUnlessCut, IsDoneUnlessCut}
 use Rattle.fx_fleet.specs.Runs.{wire_of, journal_of}
 use Rattle.fx_world.specs.declared.shown.Shown.{Shown}
 use Rattle.fx_world.specs.declared.shown.Shown.TheVariants as shown

@@ -1,12 +1,12 @@
 -- What is kept reads as what was sent and told: what is past is never read, and forgetting twice is forgetting later.
-use Rattle.std.proofs.Common.{◌≡◌, inl, inr, ◌<◌, ◌≤◌, ℕ, suc, Bool, true, false, not, cond, ◌&&◌, ◌||◌, ◌==◌, List, [], ◌∷◌, ◌++◌, map, length, replicate, take, drop, Option, None, refl, sym, ap, ◌∙◌, subst, arith}
+use Rattle.std.proofs.Common.{◌≡◌, inl, inr, ◌≤◌, ℕ, ℤ, suc, Bool, true, false, not, cond, ◌&&◌, ◌||◌, ◌==◌, List, [], ◌∷◌, ◌++◌, map, length, replicate, take, drop, Option, None, refl, sym, ap, ◌∙◌, subst, arith}
 use Rattle.std.specs.Prelude.{slice_get, slice_index_or}
 use Rattle.std.specs.Cmp.{nat_cmp_total, unsigned_tied}
 use Rattle.std.specs.FinSet as set
-use Rattle.std.specs.List.{filter, list_all}
+use Rattle.std.specs.List.{filter, list_all, list_any}
 use Rattle.std.specs.Ordering.{nat_cmp}
 use Rattle.std.proofs.lemmas.Bool.Decides.{nat_tests}
-use Rattle.std.proofs.lemmas.Bool.{cases_lt}
+use Rattle.std.proofs.lemmas.Bool.{cases_lt, or_parts}
 use Rattle.std.proofs.lemmas.List.{append-nil, drop_all, get_or-replicate, get_or_past, length-replicate, take_all}
 use Rattle.std.proofs.Math.ListN as lists
 use Rattle.fx_link.specs.declared.message.Message.{Message}
@@ -15,11 +15,11 @@ use Rattle.fx_machine.specs.Messages.{wire_text}
 use Rattle.fx_ballot.specs.Names.{seat_of}
 use Rattle.fx_ballot.specs.World.{put}
 use Rattle.fx_machine.specs.Nodes.{Node}
-use Rattle.fx_machine.specs.Reading.{OfEpoch, first_read, only, is_past_at, vote_in, estimate_in, is_join, is_lost, are_same, fits, vote_of, estimate_of, next_ballot}
+use Rattle.fx_machine.specs.Reading.{OfEpoch, first_read, only, part_in, is_past_at, vote_in, estimate_in, is_join, is_lost, are_same, fits, vote_of, estimate_of, next_ballot}
 use Rattle.fx_machine.specs.Texts.{Text, Join, Jest, Part, Vote, Est, Share, Tell, Help, Give}
 use Rattle.fx_inbox.specs.declared.estimate.Measure.{Measure}
-use Rattle.fx_inbox.specs.Keeping.{Kept, Knows, IsInboxOf, current, texts_from}
-use Rattle.fx_inbox.specs.Measures.{is_fit}
+use Rattle.fx_inbox.specs.Keeping.{Kept, Knows, IsInboxOf, current, goes_on, part_from, texts_from}
+use Rattle.fx_inbox.specs.Measures.{is_estimate_in, is_fit}
 
 -- ---- filters
 
@@ -40,16 +40,16 @@ filter_texts p (m ∷ ms) = grind (arith, nat_tests, filter_texts p ms)
 
 -- ---- what is past
 
-pub past_later : (before calls e : ℕ) (t : Text) → before < e → not (is_past_at e 0 t) ≡ true → not (is_past_at before calls t) ≡ true
-past_later before calls e (Join d x) low = grind (arith, nat_tests)
-past_later before calls e (Jest d r slots) low = grind (arith, nat_tests)
-past_later before calls e (Part d k values) low = grind (arith, nat_tests)
-past_later before calls e (Vote d k x) low = grind (arith, nat_tests)
-past_later before calls e (Est d k r slots) low = grind (arith, nat_tests)
-past_later before calls e (Share d k packed) low = grind (arith, nat_tests)
-past_later before calls e (Tell d k known) low = grind (arith, nat_tests)
-past_later before calls e (Help d k packed) low = grind (arith, nat_tests)
-past_later before calls e (Give d k packed) low = grind (arith, nat_tests)
+pub past_later : (before calls e k : ℕ) (t : Text) → goes_on before calls e k ≡ true → not (is_past_at e k t) ≡ true → not (is_past_at before calls t) ≡ true
+past_later before calls e k (Join d x) on = grind (arith, nat_tests)
+past_later before calls e k (Jest d r slots) on = grind (arith, nat_tests)
+past_later before calls e k (Part d j values) on = grind (arith, nat_tests)
+past_later before calls e k (Vote d j x) on = grind (arith, nat_tests)
+past_later before calls e k (Est d j r slots) on = grind (arith, nat_tests)
+past_later before calls e k (Share d j packed) on = grind (arith, nat_tests)
+past_later before calls e k (Tell d j known) on = grind (arith, nat_tests)
+past_later before calls e k (Help d j packed) on = grind (arith, nat_tests)
+past_later before calls e k (Give d j packed) on = grind (arith, nat_tests)
 
 pub no_vote : (e k : ℕ) (test : Slot → Bool) (t : Text) → not (is_past_at e k t) ≡ false → only test (vote_in (OfEpoch (suc e)) t) ≡ None
 no_vote e k test (Join d x) = grind (arith, nat_tests)
@@ -72,6 +72,17 @@ no_estimate e k r test (Share d j packed) = λ h. refl
 no_estimate e k r test (Tell d j known) = λ h. refl
 no_estimate e k r test (Help d j packed) = λ h. refl
 no_estimate e k r test (Give d j packed) = λ h. refl
+
+pub no_part : (e k : ℕ) (test : List ℤ → Bool) (t : Text) → not (is_past_at e k t) ≡ false → only test (part_in e k t) ≡ None
+no_part e k test (Join d x) = λ h. refl
+no_part e k test (Jest d r slots) = λ h. refl
+no_part e k test (Part d j values) = grind (arith, nat_tests)
+no_part e k test (Vote d j x) = λ h. refl
+no_part e k test (Est d j r slots) = λ h. refl
+no_part e k test (Share d j packed) = λ h. refl
+no_part e k test (Tell d j known) = λ h. refl
+no_part e k test (Help d j packed) = λ h. refl
+no_part e k test (Give d j packed) = λ h. refl
 
 -- ---- what is read of texts whose currents are the same
 
@@ -109,6 +120,25 @@ estimates_alike n box w own q r know at members seat vote mine round =
     ∙ reads_alike n.epoch n.calls (λ t. only (λ slots. (q == n.me) || fits (next_ballot n) n slots) (estimate_in (OfEpoch (suc n.epoch)) (seat_of n.present q) t)) (texts_from box q) (n.texts q)
     (no_estimate n.epoch n.calls (seat_of n.present q) (λ slots. (q == n.me) || fits (next_ballot n) n slots)) (know.heard q)
 
+-- a text that is no estimate of this ballot tells none, of whatever round
+tells_none : (e r : ℕ) (t : Text) → is_estimate_in e t ≡ false → estimate_in (OfEpoch e) r t ≡ None
+tells_none e r (Join d x) other = refl
+tells_none e r (Jest d q slots) other = rw other refl
+tells_none e r (Part d k values) other = refl
+tells_none e r (Vote d k x) other = refl
+tells_none e r (Est d k q slots) other = refl
+tells_none e r (Share d k packed) other = refl
+tells_none e r (Tell d k known) other = refl
+tells_none e r (Help d k packed) other = refl
+tells_none e r (Give d k packed) other = refl
+
+pub none_is_read : (e r : ℕ) (may : List Slot → Bool) (ts : List Text) → list_any (is_estimate_in e) ts ≡ false
+    → first_read (λ t. only may (estimate_in (OfEpoch e) r t)) ts ≡ None
+none_is_read e r may [] other = refl
+none_is_read e r may (t ∷ ts) other =
+    let parts = or_parts (is_estimate_in e t) (list_any (is_estimate_in e) ts) other in
+    rw (tells_none e r t parts.0) (none_is_read e r may ts parts.1)
+
 -- ---- what a reading of the rows gives
 
 pub vote_read : (n : Node) (box : Kept) (e q : ℕ) (own : Bool) (messages : List Message) (result : Option Slot) → IsInboxOf n box → n.epoch ≡ e
@@ -127,6 +157,15 @@ estimate_read n box w own q r messages result know at members seat vote mine rou
     read
     ∙ ap (λ (ms : List Message). first_read (λ t. only (λ slots. own || is_fit w slots) (estimate_in (OfEpoch (suc w.epoch.0)) r t)) (map wire_text ms)) row
     ∙ estimates_alike n box w own q r know at members seat vote mine round
+
+pub part_read : (n : Node) (box : Kept) (e k due q : ℕ) (messages : List Message) (result : Option (List ℤ)) → IsInboxOf n box → n.epoch ≡ e → n.calls ≡ k
+    → messages ≡ slice_index_or box.messages q []
+    → result ≡ first_read (λ t. only (λ values. length values == due) (part_in e k t)) (map wire_text messages) → result ≡ part_from n due q
+part_read n box e k due q messages result know at call row read =
+    read
+    ∙ (λ i. first_read (λ t. only (λ values. length values == due) (part_in (sym at i) (sym call i) t)) (map wire_text (row i)))
+    ∙ reads_alike n.epoch n.calls (λ t. only (λ values. length values == due) (part_in n.epoch n.calls t)) (texts_from box q) (n.texts q)
+    (no_part n.epoch n.calls (λ values. length values == due)) (know.heard q)
 
 -- ---- what a call leaves
 
@@ -147,29 +186,29 @@ knows_loss me e k q lost texts old new is know =
 pub all_written : {X : Type 0} (f : X → X) (xs ys : List X) (i : ℕ) → length xs ≤ i → ys ≡ map f (take i xs) ++ drop i xs → ys ≡ map f xs
 all_written f xs ys i end is = is ∙ (λ j. map f (take_all i xs end j) ++ drop_all i xs end j) ∙ append-nil (map f xs)
 
--- the messages that aren't past at the begin of an epoch
-abbrev pub of_later : ℕ → List Message → List Message
-of_later e ms = filter (λ m. not (is_past_at e 0 (wire_text m))) ms
+-- the messages that aren't past, for who has come to this call of this epoch
+abbrev pub of_later : ℕ → ℕ → List Message → List Message
+of_later e k ms = filter (λ m. not (is_past_at e k (wire_text m))) ms
 
-current_of_later : (before calls e : ℕ) (ms : List Message) (ts : List Text) → before < e → current before calls (map wire_text ms) ≡ current before calls ts
-    → current e 0 (map wire_text (of_later e ms)) ≡ current e 0 ts
-current_of_later before calls e ms ts low same =
-    ap (λ (xs : List Text). current e 0 xs) (filter_texts (λ t. not (is_past_at e 0 t)) ms)
-    ∙ filter_twice (λ t. not (is_past_at e 0 t)) (λ t. not (is_past_at e 0 t)) (map wire_text ms) (λ t h. h)
-    ∙ sym (filter_twice (λ t. not (is_past_at before calls t)) (λ t. not (is_past_at e 0 t)) (map wire_text ms) (λ t. past_later before calls e t low))
-    ∙ ap (λ (xs : List Text). current e 0 xs) same
-    ∙ filter_twice (λ t. not (is_past_at before calls t)) (λ t. not (is_past_at e 0 t)) ts (λ t. past_later before calls e t low)
+current_of_later : (before calls e k : ℕ) (ms : List Message) (ts : List Text) → goes_on before calls e k ≡ true → current before calls (map wire_text ms) ≡ current before calls ts
+    → current e k (map wire_text (of_later e k ms)) ≡ current e k ts
+current_of_later before calls e k ms ts on same =
+    ap (λ (xs : List Text). current e k xs) (filter_texts (λ t. not (is_past_at e k t)) ms)
+    ∙ filter_twice (λ t. not (is_past_at e k t)) (λ t. not (is_past_at e k t)) (map wire_text ms) (λ t h. h)
+    ∙ sym (filter_twice (λ t. not (is_past_at before calls t)) (λ t. not (is_past_at e k t)) (map wire_text ms) (λ t. past_later before calls e k t on))
+    ∙ ap (λ (xs : List Text). current e k xs) same
+    ∙ filter_twice (λ t. not (is_past_at before calls t)) (λ t. not (is_past_at e k t)) ts (λ t. past_later before calls e k t on)
 
-pub knows_later : (me before calls e : ℕ) (lost : ℕ → Bool) (texts : ℕ → List Text) (old new : Kept) → new ≡ record old { messages = map (of_later e) old.messages } → before < e
-    → Knows me before calls lost texts old → Knows me e 0 lost texts new
-knows_later me before calls e lost texts old new is low know =
-    subst (λ (box : Kept). Knows me e 0 lost texts box) (sym is)
+pub knows_later : (me before calls e k : ℕ) (lost : ℕ → Bool) (texts : ℕ → List Text) (old new : Kept) → new ≡ record old { messages = map (of_later e k) old.messages }
+    → goes_on before calls e k ≡ true → Knows me before calls lost texts old → Knows me e k lost texts new
+knows_later me before calls e k lost texts old new is on know =
+    subst (λ (box : Kept). Knows me e k lost texts box) (sym is)
     (record {
       same = know.same;
       told = know.told;
       heard = λ q.
-          ap (λ (ms : List Message). current e 0 (map wire_text ms)) (lists.get_or-map (of_later e) old.messages q [])
-          ∙ current_of_later before calls e (slice_index_or old.messages q []) (texts q) low (know.heard q);
+          ap (λ (ms : List Message). current e k (map wire_text ms)) (lists.get_or-map (of_later e k) old.messages q [])
+          ∙ current_of_later before calls e k (slice_index_or old.messages q []) (texts q) on (know.heard q);
     })
 
 always : {X : Type 0} (n q : ℕ) (d : X) → slice_index_or (replicate n d) q d ≡ d

@@ -1,5 +1,5 @@
 -- What a process keeps of all that it was sent and told, as the node that it is defined to be has it.
-use Rattle.std.specs.Prelude.{◌≡◌, ◌<◌, ◌≤◌, ℕ, Bool, not, List, [], map, length, refl, slice_index_or}
+use Rattle.std.specs.Prelude.{◌≡◌, ◌<◌, ◌≤◌, ◌==◌, ◌&&◌, ◌||◌, ℕ, ℤ, Bool, not, nat_le, nat_lt, List, [], map, length, refl, slice_index_or, Option}
 use Rattle.std.specs.Coded.{Coded, code_by, coded×, coded_list, coded_ℕ}
 use Rattle.std.specs.FinSet as set
 use Rattle.std.specs.List.{filter}
@@ -8,7 +8,7 @@ use Rattle.fx_link.specs.contracts.message.Message as message
 use Rattle.fx_link.specs.declared.message.Message.{Message}
 use Rattle.fx_machine.specs.Messages.{wire_text}
 use Rattle.fx_machine.specs.Nodes.{Node}
-use Rattle.fx_machine.specs.Reading.{is_past_at}
+use Rattle.fx_machine.specs.Reading.{first_read, is_past_at, only, part_in}
 use Rattle.fx_machine.specs.Texts.{Text}
 
 -- its own process, of whose loss it was told, and the messages that it keeps of each process, the oldest first; under itself are
@@ -50,3 +50,11 @@ pub record Knows (me epoch calls : ℕ) (lost : ℕ → Bool) (texts : ℕ → L
 -- it knows what the node knows
 abbrev pub IsInboxOf : Node → Kept → Type 0
 IsInboxOf n box = Knows n.me n.epoch n.calls n.lost n.texts box
+
+-- who has come to this call of an epoch may go on to that call of that epoch
+abbrev pub goes_on : (before calls epoch call : ℕ) → Bool
+goes_on before calls epoch call = nat_lt before epoch || ((before == epoch) && nat_le calls call)
+
+-- the first part of this length that was heard of a process in the node's call
+abbrev pub part_from : (n : Node) (due who : ℕ) → Option (List ℤ)
+part_from n due who = first_read (λ t. only (λ values. length values == due) (part_in n.epoch n.calls t)) (n.texts who)

@@ -1,7 +1,7 @@
 ghost use Rattle.std.specs.Prelude.{◌≡◌, ◌||◌, ◌==◌, ◌&&◌, suc, map};
-ghost use Rattle.std.specs.List.{list_all};
+ghost use Rattle.std.specs.List.{list_all, list_any};
 ghost use Rattle.std.specs.Option.{option_copied};
-ghost use Rattle.fx_inbox.specs.Measures.{is_fit, may_be_in};
+ghost use Rattle.fx_inbox.specs.Measures.{is_estimate_in, is_fit, may_be_in};
 ghost use Rattle.fx_machine.specs.Messages.{wire_text};
 ghost use Rattle.fx_machine.specs.Reading.{OfEpoch, are_same, estimate_in, first_read, only, same_slot};
 
@@ -51,6 +51,27 @@ pub(crate) fn first_estimate<'a>(
         }
     }
     None
+}
+
+/// Whether one of the messages is an estimate in the ballot of the epoch behind this one, of whatever round.
+pub(crate) fn has_estimate(messages: &[Message], epoch: Epoch) -> bool
+    ensures { result ≡ list_any (is_estimate_in (suc epoch.0)) (map wire_text messages.now) }
+{
+    for message in messages {
+        if is_estimate(message, epoch) {
+            return true;
+        }
+    }
+    false
+}
+
+fn is_estimate(message: &Message, epoch: Epoch) -> bool
+    ensures { result ≡ is_estimate_in (suc epoch.0) (wire_text message.now) }
+{
+    match message {
+        Message::Jest { e, .. } => is_next(*e, epoch),
+        _ => false,
+    }
 }
 
 // The estimate of this round that a message is, if it is one.

@@ -1,8 +1,8 @@
-ghost use Rattle.std.specs.Prelude.{◌≡◌, ◌≢◌, ◌<◌, ◌≤◌, ℕ, List, Bool, false, All, IfOk, OnOk, OnErr, length};
+ghost use Rattle.std.specs.Prelude.{◌≡◌, ◌≢◌, ◌<◌, ◌≤◌, ℕ, List, Bool, true, false, All, IfOk, OnOk, OnErr, length};
 ghost use Rattle.std.specs.Option.{option_copied};
 ghost use Rattle.fx_ballot.specs.Names.{seat_of};
 ghost use Rattle.fx_ballot.specs.Turn.{Round, slot_of, speak};
-ghost use Rattle.fx_inbox.specs.Keeping.{IsInboxOf, Knows, senders};
+ghost use Rattle.fx_inbox.specs.Keeping.{IsInboxOf, Knows, goes_on, part_from, senders};
 ghost use Rattle.fx_inbox.specs.declared.phase.Phase.TheVariants as Phase;
 ghost use Rattle.fx_inbox.specs.Turns.{IsTurn, Stays, phase_of};
 ghost use Rattle.fx_machine.specs.Messages.{wire_text};
@@ -12,12 +12,13 @@ ghost use Rattle.fx_machine.specs.Setup.{Setup};
 ghost use Rattle.fx_machine.specs.Texts.{Text};
 
 use crate::ballot::seat_of;
-use crate::estimate::{Measure, first_estimate};
+use crate::estimate::{Measure, first_estimate, has_estimate};
+use crate::part::first_part;
 use crate::phase::Phase;
 use crate::row::Row;
 use crate::vote::first_vote;
 use fx_ballot::Poll;
-use fx_base::{Epoch, NoMemory, Proc, ProcSet};
+use fx_base::{CallNo, Elems, Epoch, NoMemory, Proc, ProcSet};
 use fx_link::{Message, Slot, Slots};
 use std::alloc::Global;
 use std::marker::Model;
@@ -105,14 +106,14 @@ impl Inbox {
         self.lost.has(who)
     }
 
-    /// The next epoch has begun: all that is of epochs before it and of its ballot may be forgotten. It takes no memory.
-    pub fn forget(&mut self, epoch: Epoch)
-        ensures ok { (me before calls : ℕ) (lost : ℕ → Bool) (texts : ℕ → List Text) → before < epoch.0 → Knows me before calls lost texts self.old → Knows me epoch.0 0 lost texts self.new }
+    /// It has come to this call of this epoch, to 0 at its begin: all that is over may be forgotten. It takes no memory.
+    pub fn forget(&mut self, epoch: Epoch, call: CallNo)
+        ensures ok { (me before calls : ℕ) (lost : ℕ → Bool) (texts : ℕ → List Text) → goes_on before calls epoch.0 call.0 ≡ true → Knows me before calls lost texts self.old → Knows me epoch.0 call.0 lost texts self.new }
         ensures of_all { senders self.new ≡ senders self.old }
         ensures same { self.new.me ≡ self.old.me }
     {
         for row in self.rows.iter_mut() {
-            row.forget(epoch);
+            row.forget(epoch, call);
         }
     }
 
@@ -129,6 +130,16 @@ impl Inbox {
         )
     }
 
+    /// The first part of this length that was heard of a process in the call of this epoch that it has come to.
+    pub fn part_of(&self, epoch: Epoch, call: CallNo, who: u8, due: usize) -> Option<&Elems>
+        ensures { (n : Node) → IsInboxOf n self.now → n.epoch ≡ epoch.0 → n.calls ≡ call.0 → option_copied result ≡ part_from n due who }
+    {
+        match self.rows.get(usize::from(who)) {
+            Some(row) => first_part(row.as_slice(), epoch, call, due),
+            None => None,
+        }
+    }
+
     /// Takes the one turn that is enabled in the ballot of the epoch behind this one, whose members are these in rising
     /// order, each one of the processes, and says what it did. Fails only without memory.
     pub fn turn(&self, epoch: Epoch, members: &[u8], phase: &mut Phase) -> Result<Poll, NoMemory>
@@ -141,12 +152,13 @@ impl Inbox {
         match phase {
             Phase::Voting => self.form(epoch, members, phase),
             Phase::Round(round, held) => {
+                let seat = seat_of(members, self.me.0);
                 if usize::from(*round) >= members.len() {
                     Ok(Poll::Decided(held.copy()?))
-                } else if *round == seat_of(members, self.me.0) {
+                } else if *round == seat {
                     speak(round, held)
                 } else {
-                    self.follow(epoch, members, round, held)
+                    self.follow(epoch, members, seat, round, held)
                 }
             }
         }
@@ -185,24 +197,26 @@ impl Inbox {
     }
 
     // In another's round it adopts that member's estimate where one that fits was heard; else it
-    // passes the round where that member is lost.
+    // passes the round where that member is lost. `seat` is its own.
     fn follow(
         &self,
         epoch: Epoch,
         members: &[u8],
+        seat: u8,
         round: &mut u8,
         held: &mut Slots,
     ) -> Result<Poll, NoMemory>
         requires few { length members.now ≤ 32 }
         requires known { All (λ q. q < senders self.now) members.now }
         requires below { round.old < length members.now }
-        requires of_another { round.old ≢ seat_of members.now self.now.me }
+        requires own { seat ≡ seat_of members.now self.now.me }
+        requires of_another { round.old ≢ seat }
         ensures stays { IfOk result (λ said. Stays said (Phase.Round round.old held.old) (Phase.Round round.new held.new)) }
         ensures takes { IfOk result (λ said. (n : Node) → IsInboxOf n self.now → n.epoch ≡ epoch.0 → n.present ≡ members.now
             → IsTurn (turn_in (next_ballot n) n (Round round.old held.old)) said (Phase.Round round.new held.new)) }
     {
         let who = members[usize::from(*round)];
-        match self.estimate_of(epoch, members, who) {
+        match self.estimate_of(epoch, members, seat, who) {
             Some(slots) => *held = slots.copy()?,
             None if self.lost.has(who) => {}
             None => return Ok(Poll::NotYet),
@@ -212,19 +226,23 @@ impl Inbox {
     }
 
     // The estimate of a member that was heard, of the round of its seat. One's own counts as it is,
-    // another's where it fits.
-    fn estimate_of(&self, epoch: Epoch, members: &[u8], who: u8) -> Option<&Slots>
+    // another's where it fits. `seat` is its own.
+    fn estimate_of(&self, epoch: Epoch, members: &[u8], seat: u8, who: u8) -> Option<&Slots>
         requires few { length members.now ≤ 32 }
+        requires own { seat ≡ seat_of members.now self.now.me }
         requires known { who < senders self.now }
         ensures { (n : Node) → IsInboxOf n self.now → n.epoch ≡ epoch.0 → n.present ≡ members.now → option_copied result ≡ estimate_of (next_ballot n) n who }
     {
+        let messages = self.rows[usize::from(who)].as_slice();
+        if !has_estimate(messages, epoch) {
+            return None;
+        }
         let measure = Measure {
             epoch,
             members: members.len(),
-            seat: seat_of(members, self.me.0),
+            seat,
             vote: self.vote_of(epoch, self.me.0),
         };
-        let messages = self.rows[usize::from(who)].as_slice();
         first_estimate(messages, seat_of(members, who), who == self.me.0, &measure)
     }
 }

@@ -4,6 +4,7 @@
 mod ballot;
 mod estimate;
 mod inbox;
+mod part;
 mod phase;
 mod row;
 mod vote;

@@ -3,7 +3,7 @@ ghost use Rattle.std.specs.List.{filter};
 ghost use Rattle.fx_machine.specs.Messages.{wire_text};
 ghost use Rattle.fx_machine.specs.Reading.{is_past_at};
 
-use fx_base::{Epoch, NoMemory};
+use fx_base::{CallNo, Epoch, NoMemory};
 use fx_link::Message;
 use std::alloc::Global;
 use std::marker::Model;
@@ -52,26 +52,27 @@ impl Row {
         Ok(self.messages.push(message)?)
     }
 
-    /// Keeps exactly the messages that aren't past for who has come to the begin of this epoch.
-    pub fn forget(&mut self, epoch: Epoch)
-        ensures { self.new ≡ filter (λ m. not (is_past_at epoch.0 0 (wire_text m))) self.old }
+    /// Keeps exactly the messages that aren't past for who has come to this call of this epoch.
+    pub fn forget(&mut self, epoch: Epoch, call: CallNo)
+        ensures { self.new ≡ filter (λ m. not (is_past_at epoch.0 call.0 (wire_text m))) self.old }
     {
-        self.messages.retain(|message| !is_past(message, epoch));
+        self.messages
+            .retain(|message| !is_past(message, epoch, call));
     }
 }
 
-/// Whether a message is of a ballot or of a call before the begin of this epoch.
-fn is_past(message: &Message, epoch: Epoch) -> bool
-    ensures { result ≡ is_past_at epoch.0 0 (wire_text message.now) }
+/// Whether a message is of a ballot or of a call that is over, for who has come to this call of this epoch.
+fn is_past(message: &Message, epoch: Epoch, call: CallNo) -> bool
+    ensures { result ≡ is_past_at epoch.0 call.0 (wire_text message.now) }
 {
     match message {
         Message::Join { e, .. } | Message::Jest { e, .. } => e.0 <= epoch.0,
-        Message::Part { e, .. }
-        | Message::Vote { e, .. }
-        | Message::Est { e, .. }
-        | Message::Share { e, .. }
-        | Message::Tell { e, .. }
-        | Message::Help { e, .. }
-        | Message::Give { e, .. } => e.0 < epoch.0,
+        Message::Part { e, k, .. }
+        | Message::Vote { e, k, .. }
+        | Message::Est { e, k, .. }
+        | Message::Share { e, k, .. }
+        | Message::Tell { e, k, .. }
+        | Message::Help { e, k, .. }
+        | Message::Give { e, k, .. } => e.0 < epoch.0 || *e == epoch && k.0 < call.0,
     }
 }

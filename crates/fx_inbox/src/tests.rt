@@ -2,7 +2,7 @@ ghost use Rattle.std.specs.Prelude.{◌≡◌, IfOk};
 ghost use Rattle.fx_inbox.specs.Keeping.{senders};
 
 use super::*;
-use fx_base::{Epoch, NoMemory, Proc};
+use fx_base::{CallNo, Epoch, NoMemory, Proc};
 use fx_link::{Message, Slot, Slots};
 use std::test::Fail;
 
@@ -94,7 +94,7 @@ fn what_is_of_a_later_epoch_is_kept(rt: HostRuntime) -> Result<(), Fail> {
     inbox.receive(Proc(1), join(2, Slot::Error))?;
     inbox.receive(Proc(1), join(3, Slot::Final))?;
     assert_eq!(rt; inbox.vote_of(Epoch(0), 1), Some(Slot::Start));
-    inbox.forget(Epoch(1));
+    inbox.forget(Epoch(1), CallNo(0));
     assert_eq!(rt; inbox.vote_of(Epoch(0), 1), None);
     assert_eq!(rt; inbox.vote_of(Epoch(1), 1), Some(Slot::Error));
     assert_eq!(rt; inbox.vote_of(Epoch(2), 1), Some(Slot::Final));

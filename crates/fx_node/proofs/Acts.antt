@@ -1,6 +1,6 @@
 -- What a process may do where it stands.
 use Rattle.std.proofs.lemmas.Bool.Decides.{nat_tests}
-use Rattle.std.proofs.Common.{arith, subst, ◌≡◌, ◌<◌, ◌==◌, ℕ, suc, true, false, List, refl, ap, sym, ◌∙◌}
+use Rattle.std.proofs.Common.{arith, subst, ◌≡◌, ◌<◌, ◌==◌, ℕ, suc, true, false, List, [], refl, ap, sym, ◌∙◌}
 use Rattle.std.specs.Prelude.{if◌then◌else◌, not, is_some, Option}
 use Rattle.std.specs.Option.{option_map}
 use Rattle.std.specs.declared.option.Option.TheVariants.{None, Some}
@@ -20,11 +20,11 @@ use Rattle.fx_machine.specs.Steps.{in_arrival, in_walk, inits, may_help_out, nex
 use Rattle.fx_node.specs.declared.node.Moved.{Moved}
 use Rattle.fx_node.specs.declared.node.Moved.TheVariants as moved
 use Rattle.fx_node.specs.declared.stage.Stage.TheVariants as stage
-use Rattle.fx_node.specs.Standing.{IsNodeOf, IsStill, MayVote, Standing, StandsAs}
+use Rattle.fx_node.specs.Standing.{IsNodeOf, MayVote, Standing, StandsAs}
 use Rattle.fx_node.specs.Stepping.{Steps}
 use Rattle.fx_script.specs.declared.job.Job.{Job}
-use Rattle.fx_walk.specs.Along.{at_of}
-use Rattle.fx_walk.specs.Lengths.{OnlyPrints}
+use Rattle.fx_walk.specs.Along.{at_of, stop_of}
+use Rattle.fx_walk.specs.Callbacks.{state_at}
 use Rattle.fx_walk.specs.Walk.{Walk, Ends, Passes, Prints, Asks}
 use Rattle.fx_walk.specs.declared.action.At.TheVariants as at
 use Rattle.fx_walk.specs.declared.action.View.{View}
@@ -49,6 +49,11 @@ may_help job c n is h =
     let here = stands_at job c n stage.Arrived is h in
     record { goes_on = ap node.is_over here.0; still = here.1; valid = ap not (joins_later n.epoch here.3); unheard = here.2 }
 
+pub may_fail : (job : Job) (c : Standing) (n : Node) → c.stage ≡ stage.Failed → IsNodeOf job c n → MayVote slot.Error c n
+may_fail job c n is h =
+    let here = stands_at job c n stage.Failed is h in
+    record { goes_on = ap node.is_over here.0; still = here.1; valid = ap not (joins_later n.epoch here.3); unheard = here.2 }
+
 -- ---- the walk
 
 ends_in : (view : View) (walk : Walk) (flow : Flowing) → DoesRest view walk flow → at_of walk ≡ at.Finish → walk ≡ Ends (state_of flow)
@@ -57,13 +62,7 @@ ends_in view (Passes rest) flow does is = absurd (cc)
 ends_in view (Prints printed rest) flow does is = absurd (cc)
 ends_in view (Asks place wanted state rest) flow does is = absurd (cc)
 
-pub asks_nothing : (walk : Walk) → OnlyPrints walk → at_of walk ≡ at.Outward → ⊥
-asks_nothing (Ends state) only is = absurd (cc)
-asks_nothing (Passes rest) only is = absurd (cc)
-asks_nothing (Prints printed rest) only is = absurd (cc)
-asks_nothing (Asks place wanted state rest) only is = only
-
-pub walk_ends : (job : Job) (c : Standing) (n : Node) → c.stage ≡ stage.Walking → IsNodeOf job c n → at_of n.walk ≡ at.Finish → IsStill c n
+pub walk_ends : (job : Job) (c : Standing) (n : Node) → c.stage ≡ stage.Walking → IsNodeOf job c n → at_of n.walk ≡ at.Finish → n.walk ≡ Ends (state_of c.flow)
 walk_ends job c n is h over =
     let here = stands_at job c n stage.Walking is h in
     ends_in c.view n.walk c.flow here.1.does over
@@ -71,9 +70,9 @@ walk_ends job c n is h over =
 pub may_finish : (job : Job) (c : Standing) (n : Node) → c.stage ≡ stage.Walking → IsNodeOf job c n → at_of n.walk ≡ at.Finish → MayVote slot.Final c n
 may_finish job c n is h over =
     let here = stands_at job c n stage.Walking is h in
-    record { goes_on = ap node.is_over here.0; still = walk_ends job c n is h over; valid = ap not (joins_later n.epoch here.3); unheard = here.2 }
+    record { goes_on = ap node.is_over here.0; still = ap (λ (w : Walk). state_at (stop_of w [])) (walk_ends job c n is h over); valid = ap not (joins_later n.epoch here.3); unheard = here.2 }
 
-pub finishes : (job : Job) (c after : Standing) (n : Node) (said : Moved) (sent sent' : List (Proc × Message)) (told told' : List Item) → IsStill c n
+pub finishes : (job : Job) (c after : Standing) (n : Node) (said : Moved) (sent sent' : List (Proc × Message)) (told told' : List Item) → n.walk ≡ Ends (state_of c.flow)
     → Steps job n (joins slot.Final n) said after sent sent' told told' → Steps job n (in_walk (job_setup job) n n.walk) said after sent sent' told told'
 finishes job c after n said sent sent' told told' still h =
     subst (λ w. Steps job n (in_walk (job_setup job) n w) said after sent sent' told told') (sym still) h

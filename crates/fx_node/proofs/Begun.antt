@@ -1,7 +1,7 @@
 -- A body begins: its place, its view, its walk and what is written of that.
 use Rattle.std.proofs.lemmas.List.{append-nil}
-use Rattle.std.proofs.Common.{append_assoc, subst, ◌≡◌, ◌++◌, ◌∷◌, ◌==◌, [], ℕ, zero, suc, ◌+◌, Bool, inl, inr, ◌⊎◌, List, length, slice_get, refl, ap, sym, ◌∙◌, add-one}
-use Rattle.std.specs.Prelude.{nat_lt, slice_index_or}
+use Rattle.std.proofs.Common.{arith, append_assoc, subst, ◌≡◌, ◌≤◌, ◌++◌, ◌∷◌, ◌==◌, [], ℕ, zero, suc, ◌+◌, Bool, inl, inr, ◌⊎◌, List, length, slice_get, refl, ap, sym, ◌∙◌, add-one}
+use Rattle.std.specs.Prelude.{nat_lt, slice_index_or, is_some}
 use Rattle.std.specs.List.{flat_map}
 use Rattle.std.specs.Option.{option_map}
 use Rattle.std.specs.declared.option.Option.{Option}
@@ -14,7 +14,10 @@ use Rattle.fx_check.specs.Facts.{facts_of}
 use Rattle.fx_check.specs.Rules.{count_of}
 use Rattle.fx_comm.specs.Seats.{Seat, idents_of, place_in}
 use Rattle.fx_comm.proofs.Lists.{tells}
-use Rattle.fx_fleet.specs.Runs.{AsksNothing, job_setup}
+use Rattle.fx_comm.proofs.Places.{has_place_in}
+use Rattle.fx_check.specs.Work.{work_of}
+use Rattle.fx_walk.proofs.Lengths.{is_within_its_work}
+use Rattle.fx_fleet.specs.Runs.{job_setup}
 use Rattle.fx_flow.specs.Flowing.{DoesRest, Flowing, IsFlowOf, state_of}
 use Rattle.fx_item.specs.declared.item.Item.{Item}
 use Rattle.fx_item.specs.declared.item.Item.TheVariants as item
@@ -27,6 +30,7 @@ use Rattle.fx_machine.specs.Steps.{begun, init_item, inits}
 use Rattle.fx_node.specs.declared.node.Moved.TheVariants as moved
 use Rattle.fx_node.specs.declared.stage.Stage.TheVariants as stage
 use Rattle.fx_node.specs.Standing.{IsNodeOf, IsStill, Standing, StandsAs}
+use Rattle.fx_node.specs.Asking.{AsksCarried}
 use Rattle.fx_node.specs.Stepping.{Steps, called_items}
 use Rattle.fx_script.specs.declared.job.Job.{Job}
 use Rattle.fx_walk.specs.Callbacks.{body_start, callback_run, callbacks_at_init, state_behind_callbacks, view_at_init}
@@ -59,7 +63,7 @@ ident_there (s ∷ seats) (suc place) id e = ident_there seats place id e
 -- ---- the state of the body
 
 still_state : (c : Standing) (n : Node) → IsStill c n → node.state_of n ≡ state_of c.flow
-still_state c n still = rw still refl
+still_state c n still = still
 
 -- ---- the step
 
@@ -91,7 +95,7 @@ returns_so : (me me' epoch epoch' : ℕ) (role role' : Role) (id id' place place
     ≡ item.Init (proc me') (epoch_no epoch') role' (record { 0 = id' }) place' count' (nat_lt count' ranks')
 returns_so me me' epoch epoch' role role' id id' place place' count count' ranks ranks' x y a i b d r = rw (x, y, a, i, b, d, r) refl
 
-my_place_is : (n : Node) (comm : List Seat) (me place : ℕ) → n.comm ≡ comm → n.me ≡ me → place_in comm me ≡ Some place → my_place n ≡ place
+pub my_place_is : (n : Node) (comm : List Seat) (me place : ℕ) → n.comm ≡ comm → n.me ≡ me → place_in comm me ≡ Some place → my_place n ≡ place
 my_place_is n comm me place same own there = rw (same, own) (seat_is_place comm me place there)
 
 ident_is : (n : Node) (comm : List Seat) (place : ℕ) (id : Ident) → n.comm ≡ comm → my_place n ≡ place → option_map (λ seat. seat.0) (slice_get comm place) ≡ Some id
@@ -106,7 +110,7 @@ pub record Beginning (job : Job) (c : Standing) (place : ℕ) (id : Ident) (view
   pub of_job : IsFlowOf job flow
   pub does : (view : View) → DoesRest view (job_walk job view (body_start (facts_of job) c.role place (length c.comm) (state_of c.flow))) flow
 
-node_begins : (job : Job) (c : Standing) (n : Node) (place : ℕ) (id : Ident) (view : View) (flow : Flowing) → AsksNothing job → IsNodeOf job c n → c.stage ≡ stage.Arrived
+node_begins : (job : Job) (c : Standing) (n : Node) (place : ℕ) (id : Ident) (view : View) (flow : Flowing) → AsksCarried job → IsNodeOf job c n → c.stage ≡ stage.Arrived
     → Beginning job c place id view flow → IsNodeOf job (in_body c view flow) (begun (job_setup job) n)
 node_begins job c n place id view flow asks h at b =
     let arrived = subst (λ s. StandsAs s c n) at h.stands in
@@ -122,6 +126,8 @@ node_begins job c n place id view flow asks h at b =
       present = h.present;
       member = h.member;
       role = h.role;
+      calls = h.calls;
+      bare = h.bare;
       is_flow = b.of_job;
       knows = h.knows;
       stands = (
@@ -129,7 +135,11 @@ node_begins job c n place id view flow asks h at b =
         record {
           sees = sees;
           does = subst (λ v. DoesRest view (job_walk job v (body_start (facts_of job) n.role (my_place n) (size n) (node.state_of n))) flow) sees does;
-          prints = asks (view_at_init n.role (my_place n) (size n)) (body_start (facts_of job) n.role (my_place n) (size n) (node.state_of n));
+          carried = asks (view_at_init n.role (my_place n) (size n)) (body_start (facts_of job) n.role (my_place n) (size n) (node.state_of n));
+          placed = rw (h.comm, h.me) (has_place_in c.comm c.me ∙ ap is_some b.there);
+          left = work_of job.body;
+          within = is_within_its_work (facts_of job) job.body (view_at_init n.role (my_place n) (size n)) (body_start (facts_of job) n.role (my_place n) (size n) (node.state_of n));
+          few = let none : n.calls ≡ 0 = arrived.4 in let work : work_of job.body ≤ 20000 = b.of_job.accepted.work in omega (arith, none, work);
         },
         arrived.2,
         arrived.3,
@@ -137,7 +147,7 @@ node_begins job c n place id view flow asks h at b =
     }
 
 begins : (job : Job) (c : Standing) (n : Node) (place : ℕ) (id : Ident) (view : View) (flow : Flowing) (sends : List (Proc × Message)) (before written : List Item)
-    → AsksNothing job → IsNodeOf job c n → c.stage ≡ stage.Arrived → Beginning job c place id view flow
+    → AsksCarried job → IsNodeOf job c n → c.stage ≡ stage.Arrived → Beginning job c place id view flow
     → written ≡ before ++ flat_map (called_items c.me c.epoch) (callbacks_at_init (facts_of job) c.role place (length c.comm) (state_of c.flow))
     → Steps job n (Some (inits (job_setup job) n)) moved.Acted (in_body c view flow) sends sends before (written ++ returned c id place ∷ [])
 begins job c n place id view flow sends before written asks h at b wrote =
@@ -169,7 +179,7 @@ found_in c id place count warn written new a b e = e ∙ ap (λ (k : ℕ). writt
     ∙ ap (λ (w : Bool). written ++ item.Init (proc c.me) (epoch_no c.epoch) c.role id place (length c.comm) w ∷ []) b
 
 pub begins_from : (job : Job) (c s : Standing) (n : Node) (place size count : ℕ) (id : Ident) (warn : Bool) (flow : Flowing) (sends : List (Proc × Message)) (before written new : List Item)
-    → AsksNothing job → IsNodeOf job c n → c.stage ≡ stage.Arrived → place_in c.comm c.me ≡ Some place → size ≡ length c.comm
+    → AsksCarried job → IsNodeOf job c n → c.stage ≡ stage.Arrived → place_in c.comm c.me ≡ Some place → size ≡ length c.comm
     → record c { view = view_at_init c.role place size; flow = flow } ≡ s → Found s place id count warn
     → (IsFlowOf job c.flow → IsFlowOf job flow)
     → (IsFlowOf job c.flow → (view : View) → DoesRest view (job_walk job view (body_start (facts_of job) c.role place size (state_of c.flow))) flow)

@@ -1,16 +1,18 @@
 -- The decision of the ballot of the next epoch: the epoch begins with those who voted, or the process ends.
-use Rattle.std.proofs.Common.{◌≡◌, ℕ, ◌<◌, ◌≤◌, suc, Bool, true, false, ◌||◌, ◌==◌, List, [], ◌∷◌, ◌++◌, length, Some, inl, inr, refl, sym, ap, subst, ◌∙◌, arith}
-use Rattle.std.specs.Prelude.{if◌then◌else◌, nat_lt, slice_get}
+use Rattle.std.proofs.Common.{◌≡◌, All, ℕ, ◌<◌, ◌≤◌, suc, Bool, true, false, ◌||◌, ◌==◌, List, [], ◌∷◌, ◌++◌, length, Some, inl, inr, refl, sym, ap, subst, ◌∙◌, arith}
+use Rattle.std.specs.Prelude.{◌&&◌, if◌then◌else◌, nat_le, nat_lt, slice_get}
 use Rattle.std.specs.Ordering.{nat_cmp}
 use Rattle.std.specs.Cmp.{nat_cmp_total, unsigned_tied}
 use Rattle.std.specs.FinSet as set
 use Rattle.std.proofs.lemmas.List.{append-nil}
-use Rattle.std.proofs.lemmas.Bool.{eq-eqb, eqb-true, or_left, or_right, cases_lt, cases_Bool, le-ltb}
+use Rattle.std.proofs.lemmas.Bool.{lt-ltb, eq-eqb, eqb-true, or_left, or_right, cases_lt, cases_Bool, le-ltb}
 use Rattle.fx_ballot.specs.Names.{has, seat_of}
 use Rattle.fx_base.specs.declared.names.Proc.{Proc}
 use Rattle.fx_base.specs.declared.names.Role.{Role}
 use Rattle.fx_check.specs.Rules.{count_of}
-use Rattle.fx_comm.specs.Seats.{Seat, repaired}
+use Rattle.fx_comm.specs.Seats.{AllPresent, Seat, repaired}
+use Rattle.fx_comm.proofs.Repairs.{repaired_present}
+use Rattle.std.proofs.lemmas.List.Elements.{All-cons, All-head, All-nil, All-tail}
 use Rattle.fx_fleet.specs.Runs.{job_setup}
 use Rattle.fx_item.specs.declared.item.Item.{Item}
 use Rattle.fx_item.specs.declared.item.Item.TheVariants as item
@@ -24,6 +26,7 @@ use Rattle.fx_machine.specs.Texts.{Text}
 use Rattle.fx_node.specs.declared.node.Moved.{Moved}
 use Rattle.fx_node.specs.declared.node.Moved.TheVariants as moved
 use Rattle.fx_node.specs.declared.stage.Stage.TheVariants as stage
+use Rattle.fx_inbox.specs.Keeping as kept
 use Rattle.fx_inbox.specs.Keeping.{Kept, Knows}
 use Rattle.fx_node.specs.Standing.{Standing, IsDeciding, IsNodeOf}
 use Rattle.fx_node.specs.Stepping.{Takes}
@@ -91,6 +94,33 @@ some_member s me = elim (cases_lt 0 (set.len (set.insert s me))) [
       absurd cc
 ]
 
+-- ---- all with a place are processes
+
+contains_so : (s : set.FinSet nat_cmp) (present : List ℕ) (me bound q : ℕ) → ((p : ℕ) → set.contains s p ≡ has present p) → All (λ p. p < bound) present → me < bound
+    → set.contains (set.insert s me) q ≡ true → q < bound
+contains_so s present me bound q same all own is = go (q == me) refl (sym (set.contains-insert nat_cmp_total s me q ∙ ap (λ (b : Bool). b || set.contains s q) (unsigned_tied q me)) ∙ is)
+  where
+    among : (qs : List ℕ) → All (λ p. p < bound) qs → has qs q ≡ true → q < bound
+    among [] all is = absurd cc
+    among (x ∷ qs) all is = elim (cases_Bool (x == q)) [
+      | inl e ↦ subst (λ (p : ℕ). p < bound) (eqb-true x q e) (All-head (λ p. p < bound) x qs all)
+      | inr e ↦ among qs (All-tail (λ p. p < bound) x qs all) (there_later (x == q) (has qs q) e is)
+    ]
+
+    go : (b : Bool) → (q == me) ≡ b → (b || set.contains s q) ≡ true → q < bound
+    go true e is = subst (λ (p : ℕ). p < bound) (sym (eqb-true q me e)) own
+    go false e is = among present all (sym (same q) ∙ is)
+
+seats_so : (bound : ℕ) (test : ℕ → Bool) (seats : List Seat) → ((q : ℕ) → test q ≡ true → q < bound) → AllPresent test seats → All (λ (s : Seat). s.1.0 < bound) seats
+seats_so bound test [] low all = All-nil (λ (s : Seat). s.1.0 < bound)
+seats_so bound test (s ∷ seats) low all = All-cons (λ (s : Seat). s.1.0 < bound) s seats (low s.1.0 all.0) (seats_so bound test seats low all.1)
+
+pub repaired_so : (bound me : ℕ) (old comm : List Seat) (s : set.FinSet nat_cmp) (present : List ℕ) → comm ≡ repaired old (set.contains (set.insert s me)) → ((p : ℕ) → set.contains s p ≡ has present p)
+    → All (λ p. p < bound) present → me < bound → All (λ (s : Seat). s.1.0 < bound) comm
+repaired_so bound me old comm s present is same all own =
+    subst (λ (l : List Seat). All (λ (s : Seat). s.1.0 < bound) l) (sym is)
+    (seats_so bound (set.contains (set.insert s me)) (repaired old (set.contains (set.insert s me))) (λ q. contains_so s present me bound q same all own) (repaired_present (set.contains (set.insert s me)) old))
+
 -- ---- the next epoch
 
 -- all that the code found out
@@ -100,7 +130,7 @@ pub record Found (job : Job) (c : Standing) (n : Node) (slots : List Slot) (next
   pub members_are : (q : ℕ) → set.contains members q ≡ has present q
   pub comm_is : comm ≡ repaired c.comm (set.contains (set.insert members c.me))
   pub role_is : role ≡ role_behind n
-  pub knows : (me before calls : ℕ) (lost : ℕ → Bool) (texts : ℕ → List Text) → before < next → Knows me before calls lost texts c.inbox → Knows me next 0 lost texts inbox
+  pub knows : (me before calls : ℕ) (lost : ℕ → Bool) (texts : ℕ → List Text) → kept.goes_on before calls next 0 ≡ true → Knows me before calls lost texts c.inbox → Knows me next 0 lost texts inbox
 
 abbrev pub those : Node → List Slot → List ℕ
 those n slots = voters (is_join (suc n.epoch)) n.present slots
@@ -115,14 +145,18 @@ same_comm n c slots comm present members is_comm is_me are there same e =
     ∙ ap (repaired c.comm) (sym (members_same members present c.me same here))
     ∙ sym e
 
+later : (epoch calls next : ℕ) → epoch < next → kept.goes_on epoch calls next 0 ≡ true
+later epoch calls next low = or_left (nat_lt epoch next) ((epoch == next) && nat_le calls 0) (lt-ltb epoch next low)
+
 pub begins_epoch : (job : Job) (c : Standing) (n : Node) (vote : Slot) (slots : List Slot) (next : ℕ) (comm : List Seat) (present : List ℕ) (role : Role) (inbox : Kept) (members : set.FinSet nat_cmp)
     → IsNodeOf job c n → IsDeciding n vote slots c → Found job c n slots next comm present role inbox members
-    → IsNodeOf job (record c { epoch = next; comm = comm; present = present; role = role; stage = stage.Arrived; inbox = inbox }) (arrived (those n slots) n)
+    → IsNodeOf job (record c { epoch = next; comm = comm; present = present; role = role; calls = 0; stage = stage.Arrived; inbox = inbox }) (arrived (those n slots) n)
 begins_epoch job c n vote slots next comm present role inbox members is dec f =
     let of_next : suc n.epoch ≡ next = ap suc is.epoch ∙ sym f.is_next in
     let are : present ≡ those n slots = f.present_is ∙ ap (λ (e : ℕ). voters (is_join (suc e)) c.present slots) (sym is.epoch) ∙ ap (λ (l : List ℕ). voters (is_join (suc n.epoch)) l slots) (sym is.present) in
     let there : has (those n slots) n.me ≡ true = has_voter (is_join (suc n.epoch)) n.present slots n.me vote is.member dec.own dec.valid in
-    let before : n.epoch < next = omega (arith, of_next) in
+    let low : n.epoch < next = omega (arith, of_next) in
+    let before : kept.goes_on n.epoch n.calls next 0 ≡ true = later n.epoch n.calls next low in
     record {
       me = is.me;
       ranks = is.ranks;
@@ -131,9 +165,11 @@ begins_epoch job c n vote slots next comm present role inbox members is dec f =
       present = sym are;
       member = there;
       role = sym f.role_is;
+      calls = refl;
+      bare = λ g. refl;
       is_flow = is.is_flow;
       knows = subst (λ (e : ℕ). Knows n.me e 0 n.lost n.texts inbox) (sym of_next) (f.knows n.me n.epoch n.calls n.lost n.texts before is.knows);
-      stands = (refl, dec.still, dec.told, is_later n.epoch);
+      stands = (refl, dec.still, dec.told, is_later n.epoch, refl);
     }
 
 pub begin_takes : (job : Job) (c : Standing) (n : Node) (vote : Slot) (slots : List Slot) (next : ℕ) (comm : List Seat) (present : List ℕ) (role : Role) (inbox : Kept) (members : set.FinSet nat_cmp)
@@ -141,7 +177,7 @@ pub begin_takes : (job : Job) (c : Standing) (n : Node) (vote : Slot) (slots : L
     → Found job c n slots next comm present role inbox members → size ≡ length comm → warn ≡ nat_lt (length comm) c.ranks → list ≡ comm
     → told' ≡ told ++ item.Repaired (proc c.me) (epoch_no next) size warn list ∷ []
     → IsNodeOf job c n → IsDeciding n vote slots c
-    → Takes job (repairs (job_setup job) (arrived (those n slots) n)) moved.Acted (record c { epoch = next; comm = comm; present = present; role = role; stage = stage.Arrived; inbox = inbox }) sent sent told told'
+    → Takes job (repairs (job_setup job) (arrived (those n slots) n)) moved.Acted (record c { epoch = next; comm = comm; present = present; role = role; calls = 0; stage = stage.Arrived; inbox = inbox }) sent sent told told'
 begin_takes job c n vote slots next comm present role inbox members size warn list sent told told' f is_size is_warn is_list items is dec =
     let done = begins_epoch job c n vote slots next comm present role inbox members is dec f in
     let same : (arrived (those n slots) n).comm ≡ comm = done.comm in

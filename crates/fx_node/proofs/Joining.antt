@@ -125,6 +125,8 @@ goes_joining job kind c n inbox is may counted says = record {
   present = is.present;
   member = is.member;
   role = is.role;
+  calls = is.calls;
+  bare = is.bare;
   is_flow = is.is_flow;
   knows =
       subst (λ (e : ℕ). IsInboxOf (keeping (Join (suc e) kind) (record n { stage = node.Joining Voting; groups = λ g. discarding (n.groups g) })) inbox) (sym is.epoch)

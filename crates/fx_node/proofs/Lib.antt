@@ -1,10 +1,13 @@
 mod Acts
 mod Begun
+pub mod Calling
+pub mod Carried
 pub mod Deciding
 pub mod Electing
 mod First
 mod Heard
 pub mod Joining
+pub mod Learning
 pub mod Taking
 pub mod Telling
 pub mod Testing

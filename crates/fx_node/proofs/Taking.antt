@@ -101,6 +101,8 @@ goes_on job c n p later sent told v e on =
         present = v.is.present;
         member = v.is.member;
         role = v.is.role;
+        calls = v.is.calls;
+        bare = v.is.bare;
         is_flow = v.is.is_flow;
         knows = v.is.knows;
         stands = (ap node.Joining (sym on), stands.1, record { vote = voted.vote; own = voted.own; valid = voted.valid; holds = holds_on job c n p later v on; counted = voted.counted; told = voted.told });
@@ -166,6 +168,8 @@ speaks_so job c n p later slots inbox sent sent' told v e on says sends =
         present = v.is.present;
         member = v.is.member;
         role = v.is.role;
+        calls = v.is.calls;
+        bare = v.is.bare;
         is_flow = v.is.is_flow;
         knows =
             subst (λ (t : Text). IsInboxOf (keeping t (record n { stage = node.Joining (turn_of n p).phase })) inbox) (sym said)

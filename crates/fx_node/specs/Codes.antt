@@ -18,10 +18,10 @@ use Rattle.fx_walk.specs.declared.action.View.{View}
 -- its parts one after another
 abbrev pub standing_code : Coded Standing
 standing_code =
-    code_by ((ℕ × (ℕ × ℕ)) × ((List Seat × (List ℕ × Role)) × ((Stage × (View × Flowing)) × (Kept × Bool))))
+    code_by ((ℕ × (ℕ × ℕ)) × ((List Seat × (List ℕ × (Role × ℕ))) × ((Stage × (View × Flowing)) × (Kept × Bool))))
     (coded× (coded× coded_ℕ (coded× coded_ℕ coded_ℕ))
-    (coded× (coded× (coded_list (coded× the_ident.the_row.coded the_proc.the_row.coded)) (coded× (coded_list coded_ℕ) the_role.the_row.coded))
+    (coded× (coded× (coded_list (coded× the_ident.the_row.coded the_proc.the_row.coded)) (coded× (coded_list coded_ℕ) (coded× the_role.the_row.coded coded_ℕ)))
     (coded× (coded× the_stage.the_row.coded (coded× the_view.the_row.coded flow_code)) (coded× kept_code coded_bool))))
-    (λ c. ((c.me, (c.ranks, c.epoch)), ((c.comm, (c.present, c.role)), ((c.stage, (c.view, c.flow)), (c.inbox, c.failed)))))
-    (λ p. record { me = p.0.0; ranks = p.0.1.0; epoch = p.0.1.1; comm = p.1.0.0; present = p.1.0.1.0; role = p.1.0.1.1; stage = p.1.1.0.0; view = p.1.1.0.1.0; flow = p.1.1.0.1.1; inbox = p.1.1.1.0; failed = p.1.1.1.1 })
+    (λ c. ((c.me, (c.ranks, c.epoch)), ((c.comm, (c.present, (c.role, c.calls))), ((c.stage, (c.view, c.flow)), (c.inbox, c.failed)))))
+    (λ p. record { me = p.0.0; ranks = p.0.1.0; epoch = p.0.1.1; comm = p.1.0.0; present = p.1.0.1.0; role = p.1.0.1.1.0; calls = p.1.0.1.1.1; stage = p.1.1.0.0; view = p.1.1.0.1.0; flow = p.1.1.0.1.1; inbox = p.1.1.1.0; failed = p.1.1.1.1 })
     (λ c. refl)

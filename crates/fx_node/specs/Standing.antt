@@ -1,15 +1,16 @@
 -- A process as it runs, and the node that it is defined to be.
-use Rattle.std.specs.Prelude.{◌≡◌, ◌<◌, ◌≤◌, ℕ, suc, Bool, false, true, List, All, Some, length, slice_get}
+use Rattle.std.specs.Prelude.{◌≡◌, ◌+◌, ◌<◌, ◌≤◌, ℕ, suc, Bool, false, true, List, All, Some, length, slice_get}
 use Rattle.std.specs.List.{list_all}
 use Rattle.fx_ballot.specs.declared.poll.Poll.{Poll}
 use Rattle.fx_ballot.specs.Names.{Distinct, has, seat_of}
 use Rattle.fx_base.specs.declared.names.Role.{Role}
 use Rattle.fx_check.specs.Rules.{count_of}
-use Rattle.fx_comm.specs.Seats.{Seat}
+use Rattle.fx_comm.specs.Seats.{Seat, has_place}
 use Rattle.fx_flow.specs.Flowing.{Flowing, DoesRest, IsFlowOf, state_of}
 use Rattle.fx_inbox.specs.declared.phase.Phase.{Phase}
 use Rattle.fx_inbox.specs.declared.phase.Phase.TheVariants as phase
-use Rattle.fx_inbox.specs.Keeping.{Kept, IsInboxOf, senders}
+use Rattle.fx_inbox.specs.Keeping.{Kept, IsInboxOf, Knows, goes_on, senders}
+use Rattle.fx_machine.specs.Texts.{Text}
 use Rattle.fx_inbox.specs.Turns.{IsTurn, Stays, phase_of}
 use Rattle.fx_link.specs.declared.slot.Slot.{Slot}
 use Rattle.fx_machine.specs.Ballots.{may_join}
@@ -19,10 +20,12 @@ use Rattle.fx_machine.specs.Reading.{is_join, is_past_at, next_ballot, turn_in, 
 use Rattle.fx_node.specs.declared.stage.Stage.{Stage}
 use Rattle.fx_node.specs.declared.stage.Stage.TheVariants as stage
 use Rattle.fx_script.specs.declared.job.Job.{Job}
+use Rattle.fx_walk.specs.Along.{at_of}
 use Rattle.fx_walk.specs.Callbacks.{view_at_init}
+use Rattle.fx_walk.specs.declared.action.At.TheVariants as at
 use Rattle.fx_walk.specs.declared.action.View.{View}
-use Rattle.fx_walk.specs.Lengths.{OnlyPrints}
-use Rattle.fx_walk.specs.Walk.{Ends}
+use Rattle.fx_walk.specs.Lengths.{IsWithin}
+use Rattle.fx_node.specs.Asking.{OnlyCarried}
 
 -- all that a process keeps, and whether memory ran out
 pub record Standing : Type 0 where
@@ -32,6 +35,7 @@ pub record Standing : Type 0 where
   pub comm : List Seat
   pub present : List ℕ
   pub role : Role
+  pub calls : ℕ
   pub stage : Stage
   pub view : View
   pub flow : Flowing
@@ -42,18 +46,20 @@ pub record Standing : Type 0 where
 abbrev pub processes : Standing → ℕ
 processes c = senders c.inbox
 
--- it is one of its processes, of at most 32, and so are the members of its ballots, none of whom stands there twice
+-- it is one of its processes, of at most 32, and so are all with a place and the members of its ballots, none of whom stands
+-- there twice
 pub record IsSound (c : Standing) : Type 0 where
   pub few : processes c ≤ 32
   pub one_of_them : c.me < processes c
   pub same : c.inbox.me ≡ c.me
+  pub seats : All (λ (s : Seat). s.1.0 < processes c) c.comm
   pub members : All (λ q. q < processes c) c.present
   pub count : length c.present ≤ 32
   pub apart : Distinct c.present
 
--- its walk stands at its end, in the state that the flow keeps
+-- its walk stands in the state that the flow keeps
 abbrev pub IsStill : Standing → Node → Type 0
-IsStill c n = n.walk ≡ Ends (state_of c.flow)
+IsStill c n = node.state_of n ≡ state_of c.flow
 
 -- its own votes and estimates are of this epoch's ballot and those before it
 abbrev pub OwnAreUpTo : ℕ → Node → Type 0
@@ -73,21 +79,29 @@ pub record HasVoted (n : Node) (phase : Phase) : Type 0 where
   pub counted : may_join n ≡ true
   pub told : OwnAreUpTo (suc n.epoch) n
 
--- it does what is left of the node's walk, which only prints
-pub record WalksAlong (c : Standing) (n : Node) : Type 0 where
+-- It does what is left of the node's walk, which asks only for what is carried out. It has a place. The calls so far and those that
+-- can come are at most so many.
+pub record WalksAlong (most : ℕ) (c : Standing) (n : Node) : Type 0 where
   pub sees : c.view ≡ view_at_init n.role (my_place n) (size n)
   pub does : DoesRest c.view n.walk c.flow
-  pub prints : OnlyPrints n.walk
+  pub carried : OnlyCarried n.walk
+  pub placed : has_place n.comm n.me ≡ true
+  pub left : ℕ
+  pub within : IsWithin n.walk left
+  pub few : n.calls + left ≤ most
 
--- it stands where the node stands; no epoch has begun before its first join, and one has behind it
+-- It stands where the node stands. No epoch has begun before its first join, and one has behind it. The call that it is in has a
+-- number already, and still stands before it in the walk.
 abbrev pub StandsAs : Stage → Standing → Node → Type 0
 StandsAs stage.Begins c n = (n.stage ≡ node.Begins) × IsStill c n × OwnAreUpTo n.epoch n × (n.epoch ≡ 0)
 StandsAs (stage.Joining phase) c n = (n.stage ≡ node.Joining (phase_of phase)) × IsStill c n × HasVoted n phase
-StandsAs stage.Arrived c n = (n.stage ≡ node.Arrived) × IsStill c n × OwnAreUpTo n.epoch n × (0 < n.epoch)
-StandsAs stage.Walking c n = (n.stage ≡ node.Walking) × WalksAlong c n × OwnAreUpTo n.epoch n × (0 < n.epoch)
+StandsAs stage.Arrived c n = (n.stage ≡ node.Arrived) × IsStill c n × OwnAreUpTo n.epoch n × (0 < n.epoch) × (n.calls ≡ 0)
+StandsAs stage.Walking c n = (n.stage ≡ node.Walking) × WalksAlong 20000 c n × OwnAreUpTo n.epoch n × (0 < n.epoch)
+StandsAs stage.Gathering c n = (n.stage ≡ node.Calling node.Gathering) × WalksAlong 20001 c n × OwnAreUpTo n.epoch n × (0 < n.epoch) × (at_of n.walk ≡ at.Outward)
+StandsAs stage.Failed c n = (n.stage ≡ node.Failed) × IsStill c n × OwnAreUpTo n.epoch n × (0 < n.epoch)
 StandsAs stage.Over c n = n.stage ≡ node.Over
 
--- it is this node of a job
+-- it is this node of a job, in which no group is created
 pub record IsNodeOf (job : Job) (c : Standing) (n : Node) : Type 0 where
   pub me : n.me ≡ c.me
   pub ranks : c.ranks ≡ count_of job.ranks
@@ -96,6 +110,8 @@ pub record IsNodeOf (job : Job) (c : Standing) (n : Node) : Type 0 where
   pub present : n.present ≡ c.present
   pub member : has n.present n.me ≡ true
   pub role : n.role ≡ c.role
+  pub calls : n.calls ≡ c.calls
+  pub bare : (g : ℕ) → (n.groups g).created ≡ false
   pub is_flow : IsFlowOf job c.flow
   pub knows : IsInboxOf n c.inbox
   pub stands : StandsAs c.stage c n
@@ -131,3 +147,8 @@ pub record HasTurned (c after : Standing) (said : Poll) : Type 0 where
   pub same : after ≡ record c { stage = stage.Joining later }
   pub takes : (n : Node) → IsInboxOf n c.inbox → n.epoch ≡ c.epoch → n.present ≡ c.present → IsTurn (turn_in (next_ballot n) n (phase_of before)) said later
   pub stays : Stays said before later
+
+-- an inbox that forgot what is over at this call
+abbrev pub ComesTo : Standing → ℕ → Kept → Type 0
+ComesTo c next box =
+    (me before calls : ℕ) (lost : ℕ → Bool) (texts : ℕ → List Text) → goes_on before calls c.epoch next ≡ true → Knows me before calls lost texts c.inbox → Knows me c.epoch next lost texts box

@@ -5,7 +5,7 @@ ghost use Rattle.fx_base.specs.Sets.{those_below};
 ghost use Rattle.fx_base.specs.declared.names.Proc.{Proc};
 ghost use Rattle.fx_check.specs.Rules.{procs_of};
 ghost use Rattle.fx_comm.specs.Seats.{place_in};
-ghost use Rattle.fx_fleet.specs.Runs.{AsksNothing, job_setup};
+ghost use Rattle.fx_fleet.specs.Runs.{job_setup};
 ghost use Rattle.fx_check.specs.Facts.{facts_of};
 ghost use Rattle.fx_flow.specs.Flowing.{DoesRest, IsAtBegin, IsFlowOf, next_of, state_of};
 ghost use Rattle.fx_link.specs.declared.message.Message.{Message};
@@ -21,6 +21,7 @@ ghost use Rattle.fx_node.specs.declared.node.Moved.TheVariants as Moved;
 ghost use Rattle.fx_node.specs.declared.stage.Stage.TheVariants as Stage;
 ghost use Rattle.fx_inbox.specs.Keeping.{IsInboxOf};
 ghost use Rattle.fx_node.specs.Standing.{HasTurned, IsDeciding, IsJoining, IsNodeOf, MayVote, processes};
+ghost use Rattle.fx_node.specs.Asking.{AsksCarried};
 ghost use Rattle.fx_node.specs.Stepping.{Steps, broadcast, called_items, estimate_message, print_item};
 ghost use Rattle.fx_script.specs.declared.job.Job.{Job};
 ghost use Rattle.fx_walk.specs.Callbacks.{body_start, callback_run, callbacks_at_init, state_behind_callbacks, view_at_init};
@@ -30,7 +31,7 @@ ghost use Rattle.fx_walk.specs.declared.action.View.{View as Sight};
 ghost use Rattle.std.specs.List.{flat_map};
 
 use crate::stage::Stage;
-use fx_base::{Bytes, Elems, Epoch, NoMemory, Place, Proc, ProcSet, Role, Seq};
+use fx_base::{Bytes, CallNo, Elems, Epoch, NoMemory, Place, Proc, ProcSet, Role, Seq};
 use fx_check::Accepted;
 use fx_comm::{Comm, first, repair};
 use fx_flow::{At, Called, Flow, Printed, View};
@@ -57,17 +58,18 @@ pub enum Moved {
 /// A process of a job as it runs. Each process that is handed in is below the number of processes of the job.
 #[derive(Debug, Drop)]
 pub struct Node {
-    alloc: Global,
-    me: Proc,
+    pub(crate) alloc: Global,
+    pub(crate) me: Proc,
     ranks: u8,
-    epoch: Epoch,
-    comm: Comm,
-    present: Bytes,
+    pub(crate) epoch: Epoch,
+    pub(crate) comm: Comm,
+    pub(crate) present: Bytes,
     role: Role,
-    stage: Stage,
-    view: View,
-    flow: Flow,
-    inbox: Inbox,
+    pub(crate) calls: u32,
+    pub(crate) stage: Stage,
+    pub(crate) view: View,
+    pub(crate) flow: Flow,
+    pub(crate) inbox: Inbox,
     failed: bool,
 }
 
@@ -86,6 +88,7 @@ impl Model for Node {
       comm = n.comm;
       present = n.present;
       role = n.role;
+      calls = n.calls;
       stage = n.stage;
       view = n.view;
       flow = n.flow;
@@ -100,6 +103,7 @@ impl Model for Node {
       comm = n.comm;
       present = n.present;
       role = n.role;
+      calls = n.calls;
       stage = n.stage;
       view = n.view;
       flow = n.flow;
@@ -126,6 +130,7 @@ impl Node {
             comm: first(alloc, job.ranks())?,
             present: all_below(alloc, procs)?,
             role: Role::Initial,
+            calls: 0,
             stage: Stage::Begins,
             view: View {
                 role: Role::Initial,
@@ -147,10 +152,10 @@ impl Node {
     }
 
     /// Takes the one action that is enabled, and adds what it sends and writes: exactly that of the node that the process
-    /// is defined to be, where the body asks nothing of others. Fails only without memory, and then every later call that
+    /// is defined to be, where the body asks only for what is carried out. Fails only without memory, and then every later call that
     /// can fail does.
     pub fn step(&mut self, sends: &mut Outbox, items: &mut Items) -> Result<Moved, NoMemory>
-        ensures steps { IfOk result (λ moved. (job : Job) (n : defined.Node) → AsksNothing job → IsNodeOf job self.old n
+        ensures steps { IfOk result (λ moved. (job : Job) (n : defined.Node) → AsksCarried job → IsNodeOf job self.old n
             → Steps job n (next (job_setup job) n) moved self.new sends.old sends.new items.old items.new) }
         ensures to_processes { OnOk result (All (λ x. x.0.0 < processes self.old) sends.old → All (λ x. x.0.0 < processes self.old) sends.new) }
         ensures no_memory { OnErr result (self.new.failed ≡ true) }
@@ -211,7 +216,7 @@ impl Node {
     }
 
     fn act(&mut self, sends: &mut Outbox, items: &mut Items) -> Result<Moved, NoMemory>
-        ensures steps { IfOk result (λ moved. (job : Job) (n : defined.Node) → AsksNothing job → IsNodeOf job self.old n
+        ensures steps { IfOk result (λ moved. (job : Job) (n : defined.Node) → AsksCarried job → IsNodeOf job self.old n
             → Steps job n (next (job_setup job) n) moved self.new sends.old sends.new items.old items.new) }
         ensures to_processes { OnOk result (All (λ x. x.0.0 < processes self.old) sends.old → All (λ x. x.0.0 < processes self.old) sends.new) }
         ensures of_all { processes self.new ≡ processes self.old }
@@ -221,12 +226,19 @@ impl Node {
             Stage::Joining(_) => self.take_turn(sends, items),
             Stage::Arrived => self.arrive(sends, items),
             Stage::Walking => self.walk(sends, items),
+            Stage::Gathering => self.gather(items),
+            Stage::Failed => self.join(Slot::Error, sends, items),
             Stage::Over => Ok(Moved::Ended),
         }
     }
 
     // Votes in the ballot of the next epoch.
-    fn join(&mut self, kind: Slot, sends: &mut Outbox, items: &mut Items) -> Result<Moved, NoMemory>
+    pub(crate) fn join(
+        &mut self,
+        kind: Slot,
+        sends: &mut Outbox,
+        items: &mut Items,
+    ) -> Result<Moved, NoMemory>
         ensures joins { IfOk result (λ moved. (job : Job) (n : defined.Node) → IsNodeOf job self.old n → MayVote kind self.old n
             → Steps job n (joins kind n) moved self.new sends.old sends.new items.old items.new) }
         ensures to_processes { OnOk result (All (λ x. x.0.0 < processes self.old) sends.old → All (λ x. x.0.0 < processes self.old) sends.new) }
@@ -353,7 +365,8 @@ impl Node {
         self.epoch = Epoch(next);
         self.comm = comm;
         self.present = present;
-        self.inbox.forget(self.epoch);
+        self.calls = 0;
+        self.inbox.forget(self.epoch, CallNo(0));
         self.stage = Stage::Arrived;
         Ok(Moved::Acted)
     }
@@ -387,7 +400,7 @@ impl Node {
     // The epoch has begun: `Init` returns to who has a place, and a spare joins where it may help.
     fn arrive(&mut self, sends: &mut Outbox, items: &mut Items) -> Result<Moved, NoMemory>
         requires { self.old.stage ≡ Stage.Arrived }
-        ensures steps { IfOk result (λ moved. (job : Job) (n : defined.Node) → AsksNothing job → IsNodeOf job self.old n
+        ensures steps { IfOk result (λ moved. (job : Job) (n : defined.Node) → AsksCarried job → IsNodeOf job self.old n
             → Steps job n (in_arrival (job_setup job) n) moved self.new sends.old sends.new items.old items.new) }
         ensures to_processes { OnOk result (All (λ x. x.0.0 < processes self.old) sends.old → All (λ x. x.0.0 < processes self.old) sends.new) }
         ensures of_all { processes self.new ≡ processes self.old }
@@ -421,7 +434,7 @@ impl Node {
         requires there { place_in self.old.comm self.old.me ≡ Some place.0 }
         requires below { place.0 < length self.old.comm }
         requires arrived { self.old.stage ≡ Stage.Arrived }
-        ensures begins { IfOk result (λ moved. (job : Job) (n : defined.Node) (sends : List (Proc × Message)) → AsksNothing job → IsNodeOf job self.old n
+        ensures begins { IfOk result (λ moved. (job : Job) (n : defined.Node) (sends : List (Proc × Message)) → AsksCarried job → IsNodeOf job self.old n
             → Steps job n (Some (inits (job_setup job) n)) moved self.new sends sends items.old items.new) }
         ensures of_all { processes self.new ≡ processes self.old }
     {
@@ -502,7 +515,7 @@ impl Node {
         })
     }
 
-    // The next action of the body. What asks something of others isn't carried out yet.
+    // The next action of the body.
     fn walk(&mut self, sends: &mut Outbox, items: &mut Items) -> Result<Moved, NoMemory>
         requires { self.old.stage ≡ Stage.Walking }
         ensures steps { IfOk result (λ moved. (job : Job) (n : defined.Node) → IsNodeOf job self.old n
@@ -513,7 +526,7 @@ impl Node {
         match self.flow.at() {
             At::Finish => self.join(Slot::Final, sends, items),
             At::Plain => self.advance(items),
-            At::Outward => Ok(Moved::Quiet),
+            At::Outward => self.ask(sends, items),
         }
     }
 

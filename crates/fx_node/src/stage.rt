@@ -11,6 +11,10 @@ pub enum Stage {
     Arrived,
     /// `Init` has returned, and it is in the body.
     Walking,
+    /// It is in the call at which the body stands, and gathers the parts of all.
+    Gathering,
+    /// Its call failed or was revoked.
+    Failed,
     /// It has ended.
     Over,
 }

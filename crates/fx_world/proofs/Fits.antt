@@ -1,8 +1,8 @@
--- Texts and messages are one to one for what is sent so far: votes and estimates of ballots of epochs.
-use Rattle.std.proofs.Common.{◌≡◌, ℕ, suc, Bool, true, false, List, [], ◌∷◌, map, Option, Some, None, refl, sym, ap, subst, ◌∙◌}
+-- Texts and messages are one to one for what is sent so far: votes and estimates of ballots of epochs, and parts of barriers and reductions.
+use Rattle.std.proofs.Common.{◌≡◌, ℕ, suc, Bool, true, false, List, [], ◌∷◌, ◌++◌, map, Option, Some, None, refl, sym, ap, subst, ◌∙◌}
 use Rattle.std.specs.Prelude.{if◌then◌else◌, ◌==◌, not, option_map, ℤ}
 use Rattle.std.specs.FinMap as finite
-use Rattle.std.specs.List.{filter}
+use Rattle.std.specs.List.{enumerate_from, filter, flat_map}
 use Rattle.fx_ballot.specs.declared.poll.Poll.{Poll}
 use Rattle.fx_ballot.specs.declared.poll.Poll.TheVariants as poll
 use Rattle.fx_ballot.specs.Names.{seat_of}
@@ -15,10 +15,14 @@ use Rattle.fx_link.specs.declared.message.Message.{Message}
 use Rattle.fx_link.specs.declared.message.Message.TheVariants as message
 use Rattle.fx_link.specs.declared.slot.Slot.{Slot}
 use Rattle.fx_link.specs.declared.slot.Slot.TheVariants as slot
+use Rattle.fx_machine.specs.Asking.{asked, part}
+use Rattle.fx_machine.specs.Calls.{in_asked_call, in_call}
+use Rattle.fx_machine.specs.Gathering.{are_gathered, gathering_error, passes, returns_number, total}
+use Rattle.fx_machine.specs.Waits.{Error, ByLeaving, ByLoss, returns_error}
 use Rattle.fx_machine.specs.Ballots.{arrived, decides_epoch, ends, is_end, joined, joins, may_join, repairs, turned, voters}
 use Rattle.fx_machine.specs.Messages.{known_message, known_text, message_of, packed_of, shares_of, wire_text}
 use Rattle.fx_machine.specs.Nodes as node
-use Rattle.fx_machine.specs.Nodes.{Node, Act, to_others}
+use Rattle.fx_machine.specs.Nodes.{Node, Act, members, to_others}
 use Rattle.fx_machine.specs.Reading.{is_join, next_ballot, turn_in}
 use Rattle.fx_machine.specs.Setup.{Setup}
 use Rattle.fx_machine.specs.Steps.{next, next_at, in_arrival, in_walk, inits, may_help_out}
@@ -29,8 +33,10 @@ use Rattle.fx_node.specs.Standing.{Standing, IsNodeOf, StandsAs}
 use Rattle.fx_inbox.specs.Turns.{phase_of}
 use Rattle.fx_script.specs.declared.job.Job.{Job}
 use Rattle.fx_store.proofs.Meanings.{from_sorted_again}
-use Rattle.fx_walk.specs.Lengths.{OnlyPrints}
-use Rattle.fx_walk.specs.Walk.{Walk, Ends, Passes, Prints, Asks, stamp_at}
+use Rattle.fx_node.specs.Asking.{OnlyCarried, is_carried}
+use Rattle.fx_walk.specs.Walk.{Walk, Ends, Passes, Prints, Asks, Reply, stamp_at}
+use Rattle.fx_walk.specs.declared.wanted.Wanted.{Wanted}
+use Rattle.fx_walk.specs.declared.wanted.Wanted.TheVariants as wanted
 
 -- the text of the message of a text is this text
 abbrev pub Fits : ℕ × Text → Type 0
@@ -80,11 +86,67 @@ arrival_fits s n =
     helps true = joins_fit slot.Spare n
     helps false = tt
 
-walk_fits : (s : Setup) (n : Node) (walk : Walk) → OnlyPrints walk → ActFits (in_walk s n walk)
+-- one text to each other place
+to_each : (me : ℕ) (t : Text) → wire_text (message_of t) ≡ t → (places : List (ℕ × ℕ))
+    → AllFit (flat_map (λ (place : ℕ × ℕ). if place.1 == me then [] else map (λ (t : Text). (place.1, t)) (t ∷ [])) places)
+to_each me t fit [] = tt
+to_each me t fit (p ∷ places) = one (p.1 == me) (to_each me t fit places)
+  where
+    one : (b : Bool) → AllFit (flat_map (λ (place : ℕ × ℕ). if place.1 == me then [] else map (λ (t : Text). (place.1, t)) (t ∷ [])) places)
+        → AllFit ((if b then [] else (p.1, t) ∷ []) ++ flat_map (λ (place : ℕ × ℕ). if place.1 == me then [] else map (λ (t : Text). (place.1, t)) (t ∷ [])) places)
+    one true others = others
+    one false others = (fit, others)
+
+asked_fits : (s : Setup) (n : Node) (w : Wanted) (rest : Reply → Walk) → is_carried w ≡ true → ActFits (Some (asked s n rest w))
+asked_fits s n wanted.Barrier rest is = to_each n.me (part n []) refl (enumerate_from 0 (members n))
+asked_fits s n (wanted.Reduce op own) rest is = to_each n.me (part n (own ∷ [])) refl (enumerate_from 0 (members n))
+asked_fits s n (wanted.Agree flag) rest is = absurd cc
+asked_fits s n (wanted.Shift by elements) rest is = absurd cc
+asked_fits s n (wanted.Group g start depth) rest is = absurd cc
+asked_fits s n (wanted.Attach g m) rest is = absurd cc
+asked_fits s n (wanted.Store g m piece) rest is = absurd cc
+asked_fits s n (wanted.Commit g) rest is = absurd cc
+asked_fits s n (wanted.Close g) rest is = absurd cc
+asked_fits s n (wanted.Restore g m stamp) rest is = absurd cc
+asked_fits s n (wanted.Delete g stamp) rest is = absurd cc
+
+walk_fits : (s : Setup) (n : Node) (walk : Walk) → OnlyCarried walk → ActFits (in_walk s n walk)
 walk_fits s n (Ends state) only = joins_fit slot.Final n
 walk_fits s n (Passes rest) only = tt
 walk_fits s n (Prints printed rest) only = tt
-walk_fits s n (Asks place wanted state rest) only = absurd only
+walk_fits s n (Asks place w state rest) only = asked_fits s n w rest only.0
+
+call_fits : (s : Setup) (n : Node) (w : Wanted) (rest : Reply → Walk) → is_carried w ≡ true → ActFits (in_call s n w rest node.Gathering)
+call_fits s n wanted.Barrier rest is = by (are_gathered n wanted.Barrier) (gathering_error n wanted.Barrier)
+  where
+    by : (b : Bool) (e : Option Error) → ActFits (if b then Some (passes n rest) else option_map (returns_error n) e)
+    by true e = tt
+    by false None = tt
+    by false (Some (ByLoss p)) = tt
+    by false (Some (ByLeaving p)) = tt
+call_fits s n (wanted.Reduce op own) rest is = by (are_gathered n (wanted.Reduce op own)) (gathering_error n (wanted.Reduce op own))
+  where
+    by : (b : Bool) (e : Option Error) → ActFits (if b then Some (returns_number n rest (total op n (wanted.Reduce op own))) else option_map (returns_error n) e)
+    by true e = tt
+    by false None = tt
+    by false (Some (ByLoss p)) = tt
+    by false (Some (ByLeaving p)) = tt
+call_fits s n (wanted.Agree flag) rest is = absurd cc
+call_fits s n (wanted.Shift by elements) rest is = absurd cc
+call_fits s n (wanted.Group g start depth) rest is = absurd cc
+call_fits s n (wanted.Attach g m) rest is = absurd cc
+call_fits s n (wanted.Store g m piece) rest is = absurd cc
+call_fits s n (wanted.Commit g) rest is = absurd cc
+call_fits s n (wanted.Close g) rest is = absurd cc
+call_fits s n (wanted.Restore g m stamp) rest is = absurd cc
+call_fits s n (wanted.Delete g stamp) rest is = absurd cc
+
+-- a call that gathers parts sends nothing more
+gather_fits : (s : Setup) (n : Node) (walk : Walk) → OnlyCarried walk → ActFits (in_asked_call s n node.Gathering walk)
+gather_fits s n (Ends state) only = tt
+gather_fits s n (Passes rest) only = tt
+gather_fits s n (Prints printed rest) only = tt
+gather_fits s n (Asks place w state rest) only = call_fits s n w rest only.0
 
 at : (s : Setup) (n : Node) {stage : node.Stage} → n.stage ≡ stage → ActFits (next_at s n stage) → ActFits (next s n)
 at s n e fits = subst (λ stage. ActFits (next_at s n stage)) (sym e) fits
@@ -93,7 +155,9 @@ stage_fits : (s : Setup) (c : Standing) (n : Node) (at : Stage) → StandsAs at 
 stage_fits s c n stage.Begins is = at s n is.0 (joins_fit slot.Start n)
 stage_fits s c n (stage.Joining phase) is = at s n is.0 (turn_fits s n (turn_in (next_ballot n) n (phase_of phase)))
 stage_fits s c n stage.Arrived is = at s n is.0 (arrival_fits s n)
-stage_fits s c n stage.Walking is = at s n is.0 (walk_fits s n n.walk is.1.prints)
+stage_fits s c n stage.Walking is = at s n is.0 (walk_fits s n n.walk is.1.carried)
+stage_fits s c n stage.Gathering is = at s n is.0 (gather_fits s n n.walk is.1.carried)
+stage_fits s c n stage.Failed is = at s n is.0 (joins_fit slot.Error n)
 stage_fits s c n stage.Over is = at s n is tt
 
 -- what a node of a job sends

@@ -30,14 +30,14 @@ use Rattle.fx_world.proofs.Lists.{split}
 
 module _ (a b : Standings) (shown : Shown) (i j : SinkState) (turn : Job → ℕ → World → World) where
   pub no_turns : Goes (Unit {0}) a a shown i i (λ job w. in_rising_order (turn job) 0 w) (Ok tt)
-  no_turns = stays (Unit {0}) tt a a shown i (λ job w. in_rising_order (turn job) 0 w) refl (λ job w plain is. refl)
+  no_turns = stays (Unit {0}) tt a a shown i (λ job w. in_rising_order (turn job) 0 w) refl (λ job w asks is. refl)
 
   -- all turns of the processes were taken
   pub all_turns : (k : ℕ) → Goes (Unit {0}) a b shown i j (λ job w. in_rising_order (turn job) k w) (Ok tt) → k ≡ a.procs
       → Goes (Unit {0}) a b shown i j (λ job w. in_rising_order (turn job) (procs_of job) w) (Ok tt)
   all_turns k goes all =
       same_way (Unit {0}) (Ok tt) a b shown i j (λ job w. in_rising_order (turn job) k w) (λ job w. in_rising_order (turn job) (procs_of job) w) goes
-      (λ job w plain is. ap (λ n. in_rising_order (turn job) n w) (all ∙ is.procs))
+      (λ job w asks is. ap (λ n. in_rising_order (turn job) n w) (all ∙ is.procs))
 
 -- a turn was cut short
 pub cut_turn : (a b c : Standings) (shown : Shown) (i j k : SinkState) (turn : Job → ℕ → World → World) (n : ℕ) (e : RunEnd) → Goes (Unit {0}) a b shown i j (λ job w. in_rising_order (turn job) n w) (Ok tt)
@@ -46,7 +46,7 @@ pub cut_turn : (a b c : Standings) (shown : Shown) (i j k : SinkState) (turn : J
 cut_turn a b c shown i j k turn n e p q below adds =
     stops (Unit {0}) (Unit {0}) e a c shown i k (λ job w. turn job n (in_rising_order (turn job) n w)) (λ job w. in_rising_order (turn job) (procs_of job) w)
     (goes_on (Unit {0}) (Unit {0}) tt a b c shown i j k (λ job w. in_rising_order (turn job) n w) (λ job w. turn job n w) (Err e) p q)
-    (λ job w plain is. later_turns_add (turn job) (adds job) (suc n) (procs_of job) w (omega (arith, below, is.procs)))
+    (λ job w asks is. later_turns_add (turn job) (adds job) (suc n) (procs_of job) w (omega (arith, below, is.procs)))
 
 -- the same for a number of turns that isn't that of the processes
 pub cut_turn_of : (a b c : Standings) (shown : Shown) (i j k : SinkState) (turn : Job → ℕ → World → World) (n count : ℕ) (e : RunEnd) → Goes (Unit {0}) a b shown i j (λ job w. in_rising_order (turn job) n w) (Ok tt)
@@ -55,7 +55,7 @@ pub cut_turn_of : (a b c : Standings) (shown : Shown) (i j k : SinkState) (turn 
 cut_turn_of a b c shown i j k turn n count e p q below adds =
     stops (Unit {0}) (Unit {0}) e a c shown i k (λ job w. turn job n (in_rising_order (turn job) n w)) (λ job w. in_rising_order (turn job) count w)
     (goes_on (Unit {0}) (Unit {0}) tt a b c shown i j k (λ job w. in_rising_order (turn job) n w) (λ job w. turn job n w) (Err e) p q)
-    (λ job w plain is. later_turns_add (turn job) (adds job) (suc n) count w (omega (arith, below)))
+    (λ job w asks is. later_turns_add (turn job) (adds job) (suc n) count w (omega (arith, below)))
 
 -- ---- a rest
 

@@ -4,7 +4,7 @@ use Rattle.std.specs.Prelude.{not, ◌||◌, if◌then◌else◌}
 use Rattle.std.proofs.lemmas.List.{append-nil, get_or-set_same}
 use Rattle.fx_base.specs.declared.names.Proc.{Proc}
 use Rattle.fx_fleet.specs.Rounds.{is_quiet}
-use Rattle.fx_fleet.specs.Runs.{AsksNothing, job_setup}
+use Rattle.fx_fleet.specs.Runs.{job_setup}
 use Rattle.fx_fleet.specs.World.{World, up, does, send_item, steps}
 use Rattle.fx_item.specs.declared.item.Item.{Item}
 use Rattle.fx_link.specs.LinkTable as links
@@ -13,6 +13,7 @@ use Rattle.fx_link.specs.declared.message.Message.{Message}
 use Rattle.fx_machine.specs.Nodes.{Node, Act, has_ended}
 use Rattle.fx_machine.specs.Steps.{next}
 use Rattle.fx_machine.specs.Texts.{Text}
+use Rattle.fx_node.specs.Asking.{AsksCarried}
 use Rattle.fx_node.specs.declared.node.Moved.{Moved}
 use Rattle.fx_node.specs.declared.node.Moved.TheVariants as moved
 use Rattle.fx_node.specs.Standing.{Standing, IsNodeOf}
@@ -30,7 +31,7 @@ use Rattle.fx_world.proofs.Singles.{became, lives}
 
 -- how a process steps that begins with nothing sent or written
 abbrev pub Stepped : Moved → (sends : List (Proc × Message)) → (items : List Item) → Standing → Standing → Type 0
-Stepped said sends items c c' = (job : Job) (n : Node) → AsksNothing job → IsNodeOf job c n → Steps job n (next (job_setup job) n) said c' [] sends [] items
+Stepped said sends items c c' = (job : Job) (n : Node) → AsksCarried job → IsNodeOf job c n → Steps job n (next (job_setup job) n) said c' [] sends [] items
 
 -- ---- an action was taken
 
@@ -57,11 +58,11 @@ takes job w p post new sends items None e fit at steps = absurd (never_rests (w.
 takes job w p post new sends items (Some act) e fit at steps =
     record { act = act; new = new; enabled = e; here = at; node = steps.node; sent = steps.sends; written = steps.items; fit = fit }
 
-pub taken : (job : Job) (c : Standings) (w : World) (p : ℕ) (post : Option Standing) (sends : List (Proc × Message)) (items : List Item) → IsWorldOf job c w → p < c.procs → AsksNothing job
+pub taken : (job : Job) (c : Standings) (w : World) (p : ℕ) (post : Option Standing) (sends : List (Proc × Message)) (items : List Item) → IsWorldOf job c w → p < c.procs → AsksCarried job
     → up (job_setup job) w p ≡ true → Passes (post_of c p) post (Stepped moved.Acted sends items) → Taken job w p post sends items
-taken job c w p post sends items is p_in plain on passes =
+taken job c w p post sends items is p_in asks on passes =
     let now = became job c w p post (Stepped moved.Acted sends items) is p_in (lives job w p on) passes in
-    takes job w p post now.1 sends items (next (job_setup job) (w.node p)) refl (sends_fit (job_setup job) job now.0 (w.node p) now.3) now.2 (now.4 job (w.node p) plain now.3)
+    takes job w p post now.1 sends items (next (job_setup job) (w.node p)) refl (sends_fit (job_setup job) job now.0 (w.node p) now.3) now.2 (now.4 job (w.node p) asks now.3)
 
 module _ (job : Job) (w : World) (p : Proc) (post : Option Standing) (sends : List (Proc × Message)) (items : List Item) (t : Taken job w p.0 post sends items) (on : up (job_setup job) w p.0 ≡ true) where
   step_is : stepping p.0 job w ≡ does (job_setup job) p.0 t.act w
@@ -103,11 +104,11 @@ waits_if : (job : Job) (w : World) (p : ℕ) (said : Moved) (post : Option Stand
 waits_if job w p said post new sends items None e at other steps = record { new = new; none = e; here = at; node = steps.node }
 waits_if job w p said post new sends items (Some act) e at other steps = absurd (other steps.says)
 
-pub waits : (job : Job) (c : Standings) (w : World) (p : ℕ) (said : Moved) (post : Option Standing) (sends : List (Proc × Message)) (items : List Item) → IsWorldOf job c w → p < c.procs → AsksNothing job
+pub waits : (job : Job) (c : Standings) (w : World) (p : ℕ) (said : Moved) (post : Option Standing) (sends : List (Proc × Message)) (items : List Item) → IsWorldOf job c w → p < c.procs → AsksCarried job
     → up (job_setup job) w p ≡ true → (said ≡ moved.Acted → ⊥) → Passes (post_of c p) post (Stepped said sends items) → Waits job w p post
-waits job c w p said post sends items is p_in plain on other passes =
+waits job c w p said post sends items is p_in asks on other passes =
     let now = became job c w p post (Stepped said sends items) is p_in (lives job w p on) passes in
-    waits_if job w p said post now.1 sends items (next (job_setup job) (w.node p)) refl now.2 other (now.4 job (w.node p) plain now.3)
+    waits_if job w p said post now.1 sends items (next (job_setup job) (w.node p)) refl now.2 other (now.4 job (w.node p) asks now.3)
 
 module _ (job : Job) (w : World) (p : ℕ) (post : Option Standing) (q : Waits job w p post) (on : up (job_setup job) w p ≡ true) where
   pub no_step : stepping p job w ≡ w

@@ -16,8 +16,8 @@ module _ (a b : Standings) (shown : Shown) (i j : SinkState) (f : Job → World 
   pub whole_done : (over : Bool) (counts : Counts) → Goes (Unit {0}) a b shown i j f (Ok tt) → ((job : Job) (w : World) → IsWorldOf job b w → over ≡ all_over (job_setup job) w) → over ≡ true → counts ≡ b.counts
       → GoesWhole a b shown i j f (Ok counts)
   whole_done over counts goes tells is same = record {
-    leads = λ job w start plain is_it told_all.
-        let now = goes.leads job w start plain is_it told_all in
+    leads = λ job w start asks is_it told_all.
+        let now = goes.leads job w start asks is_it told_all in
         (now.0, now.1, sym (tells job (f job w) now.0) ∙ is, same);
     count_never_falls = goes.count_never_falls;
     failed_only_if_count_rose = λ e. absurd cc;
@@ -26,8 +26,8 @@ module _ (a b : Standings) (shown : Shown) (i j : SinkState) (f : Job → World 
   pub whole_unfinished : (over : Bool) → Goes (Unit {0}) a b shown i j f (Ok tt) → ((job : Job) (w : World) → IsWorldOf job b w → over ≡ all_over (job_setup job) w) → over ≡ false
       → GoesWhole a b shown i j f (Err end.Unfinished)
   whole_unfinished over goes tells is = record {
-    leads = λ job w start plain is_it told_all.
-        let now = goes.leads job w start plain is_it told_all in
+    leads = λ job w start asks is_it told_all.
+        let now = goes.leads job w start asks is_it told_all in
         (now.0, now.1, sym (tells job (f job w) now.0) ∙ is);
     count_never_falls = goes.count_never_falls;
     failed_only_if_count_rose = λ e. absurd cc;

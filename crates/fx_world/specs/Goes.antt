@@ -3,7 +3,7 @@ use Rattle.std.specs.Prelude.{◌≡◌, ◌≤◌, ◌==◌, ℕ, true, false, 
 use Rattle.fx_check.specs.Rules.{procs_of}
 use Rattle.fx_fleet.specs.Rounds as rounds
 use Rattle.fx_fleet.specs.Rounds.{in_rising_order, rests, receives_all, fair_turn, fair_round, fair_rounds, happens, all_happen, all_over, tail}
-use Rattle.fx_fleet.specs.Runs.{AsksNothing, job_setup, moment_of, rest_bound_of}
+use Rattle.fx_fleet.specs.Runs.{job_setup, moment_of, rest_bound_of}
 use Rattle.fx_fleet.specs.World.{World, up, steps, delivers, kills, notices}
 use Rattle.fx_io.specs.Faults.{Rose}
 use Rattle.fx_io.specs.States.{SinkState}
@@ -11,6 +11,7 @@ use Rattle.fx_io.specs.Told.{Gains, GainsFront}
 use Rattle.fx_io.specs.declared.whole.PutEnd.{PutEnd}
 use Rattle.fx_io.specs.declared.whole.PutEnd.TheVariants as put_end
 use Rattle.fx_item.specs.declared.item.Item.{Item}
+use Rattle.fx_node.specs.Asking.{AsksCarried}
 use Rattle.fx_sched.specs.declared.moment.Moment.{Moment}
 use Rattle.fx_sched.specs.Moments.{event_of}
 use Rattle.fx_script.specs.declared.job.Job.{Job}
@@ -55,9 +56,9 @@ Leaves A job new shown start now w (Err end) = TellsFront shown start now w.item
 
 -- It has this effect on each world of a job, and tells the items of it, where all items so far were told since the start. With a world
 -- that has no items yet, and what the sink had got at the call as the start, this says what the call itself wrote, in the midst of a run
--- too. So far this is known of jobs that ask nothing.
+-- too. So far this is known of jobs that ask only for what is carried out.
 pub record Goes (A : Type 0) (old new : Standings) (shown : Shown) (sink sink' : SinkState) (effect : Job → World → World) (answer : Result A RunEnd) : Type 0 where
-  pub leads : (job : Job) (w : World) (start : Told) → AsksNothing job → IsWorldOf job old w → Tells shown start (told old sink) w.items
+  pub leads : (job : Job) (w : World) (start : Told) → AsksCarried job → IsWorldOf job old w → Tells shown start (told old sink) w.items
       → Leaves A job new shown start (told new sink') (effect job w) answer
   pub count_never_falls : sink.faults ≤ sink'.faults
   pub failed_only_if_count_rose : answer ≡ Err end.WriteFault → Rose sink.faults sink'.faults
@@ -146,7 +147,7 @@ RunLeaves job new shown start now w (Err end.WriteFault) = TellsFront shown star
 RunLeaves job new shown start now w (Err end.NoMemory) = TellsFront shown start now w.items
 
 pub record GoesWhole (old new : Standings) (shown : Shown) (sink sink' : SinkState) (effect : Job → World → World) (answer : Result Counts RunEnd) : Type 0 where
-  pub leads : (job : Job) (w : World) (start : Told) → AsksNothing job → IsWorldOf job old w → Tells shown start (told old sink) w.items
+  pub leads : (job : Job) (w : World) (start : Told) → AsksCarried job → IsWorldOf job old w → Tells shown start (told old sink) w.items
       → RunLeaves job new shown start (told new sink') (effect job w) answer
   pub count_never_falls : sink.faults ≤ sink'.faults
   pub failed_only_if_count_rose : answer ≡ Err end.WriteFault → Rose sink.faults sink'.faults

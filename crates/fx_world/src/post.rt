@@ -1,5 +1,6 @@
 ghost use Rattle.std.specs.Prelude.{◌≡◌, ◌<◌, ◌&&◌, ℕ, Bool, not, All, None, Some, IfOk, IfSome, OnOk, is_none};
-ghost use Rattle.fx_fleet.specs.Runs.{AsksNothing, job_setup};
+ghost use Rattle.fx_fleet.specs.Runs.{job_setup};
+ghost use Rattle.fx_node.specs.Asking.{AsksCarried};
 ghost use Rattle.fx_machine.specs.Messages.{wire_text};
 ghost use Rattle.fx_machine.specs.Nodes as defined;
 ghost use Rattle.fx_machine.specs.Nodes.{has_ended, is_told, receives};
@@ -72,7 +73,7 @@ impl Post {
 
     /// The process takes a step, and what it sends and writes is added. One that was killed has none.
     pub(crate) fn step(&mut self, sends: &mut Outbox, items: &mut Items) -> Result<Moved, NoMemory>
-        ensures steps { IfOk result (λ moved. Passes self.old self.new (λ c c'. (job : Job) (n : defined.Node) → AsksNothing job → IsNodeOf job c n
+        ensures steps { IfOk result (λ moved. Passes self.old self.new (λ c c'. (job : Job) (n : defined.Node) → AsksCarried job → IsNodeOf job c n
             → Steps job n (next (job_setup job) n) moved c' sends.old sends.new items.old items.new)) }
         ensures to_processes { OnOk result ((procs : ℕ) → IsOneOf procs self.old → (All (λ x. x.0.0 < procs) sends.old) → All (λ x. x.0.0 < procs) sends.new) }
         ensures of_all { (procs : ℕ) → IsOneOf procs self.old → IsOneOf procs self.new }

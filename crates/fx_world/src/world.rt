@@ -1,12 +1,13 @@
 ghost use Rattle.std.specs.Prelude.{◌≡◌, ◌<◌, ◌≤◌, ◌∷◌, ◌++◌, ◌&&◌, ◌||◌, [], ◌↔◌, All, Bool, Err, IfOk, IsTrue, OnOk, false, map, not, true};
 ghost use Rattle.fx_check.specs.Rules.{procs_of};
 ghost use Rattle.fx_fleet.specs.Rounds.{all_over, is_quiet};
-ghost use Rattle.fx_fleet.specs.Runs.{AsksNothing, job_setup, rest_bound};
+ghost use Rattle.fx_fleet.specs.Runs.{job_setup, rest_bound};
 ghost use Rattle.fx_fleet.specs.World as defined;
 ghost use Rattle.fx_fleet.specs.World.{first_world, may_learn, up};
 ghost use Rattle.fx_io.specs.Writing.{Puts};
 ghost use Rattle.fx_link.specs.LinkTable.{sent, taken};
 ghost use Rattle.fx_machine.specs.Nodes.{Node as NodeValue, has_ended};
+ghost use Rattle.fx_node.specs.Asking.{AsksCarried};
 ghost use Rattle.fx_sched.specs.Moments.{IsAmong};
 ghost use Rattle.fx_script.specs.declared.job.Job.{Job};
 ghost use Rattle.fx_world.specs.Counting.{counted, no_counts};
@@ -36,9 +37,9 @@ use std::mem;
 /// All processes of a job, what is under way between them, and the counts of all that was told. Each process that is handed in,
 /// also in a moment, is below the number of processes of the job.
 ///
-/// What is promised of a call holds of jobs whose bodies ask nothing of others; each call on any job returns. After
-/// `WriteFault` nothing more is known of the world, and each later call still returns one of its answers. After `NoMemory`
-/// every later call answers that, and does nothing.
+/// What is promised of a call holds of jobs whose bodies ask nothing of others but barriers and reductions; each call on any
+/// job returns. After `WriteFault` nothing more is known of the world, and each later call still returns one of its answers.
+/// After `NoMemory` every later call answers that, and does nothing.
 #[derive(Debug, Drop)]
 pub struct World {
     alloc: Global,
@@ -400,7 +401,7 @@ impl World {
     fn step<K: Sink>(&mut self, p: Proc, shown: Shown, sink: &mut K) -> Result<bool, RunEnd>
         requires { p.0 < self.old.procs }
         ensures goes { Goes _ self.old self.new shown (K.state sink.old) (K.state sink.new) (stepping p.0) result }
-        ensures acts { IfOk result (λ acted. (job : Job) (w : defined.World) → AsksNothing job → IsWorldOf job self.old w → acted ≡ not (is_quiet (job_setup job) p.0 w)) }
+        ensures acts { IfOk result (λ acted. (job : Job) (w : defined.World) → AsksCarried job → IsWorldOf job self.old w → acted ≡ not (is_quiet (job_setup job) p.0 w)) }
         ensures of_all { IsOfSame self.old self.new }
     {
         if !self.is_up(p) {
@@ -414,7 +415,7 @@ impl World {
         requires there { p.0 < self.old.procs }
         requires is_up { (job : Job) (w : defined.World) → IsWorldOf job self.old w → up (job_setup job) w p.0 ≡ true }
         ensures goes { Goes _ self.old self.new shown (K.state sink.old) (K.state sink.new) (stepping p.0) result }
-        ensures acts { IfOk result (λ acted. (job : Job) (w : defined.World) → AsksNothing job → IsWorldOf job self.old w → acted ≡ not (is_quiet (job_setup job) p.0 w)) }
+        ensures acts { IfOk result (λ acted. (job : Job) (w : defined.World) → AsksCarried job → IsWorldOf job self.old w → acted ≡ not (is_quiet (job_setup job) p.0 w)) }
         ensures of_all { IsOfSame self.old self.new }
     {
         let mut sends = Outbox::new(self.alloc);

@@ -12,6 +12,7 @@ returns-clause-joins c = λ job n is may.
       comm = c.self-2.inside.comm;
       present = c.self-2.inside.present;
       role = c.self-2.inside.role;
+      calls = c.self-2.inside.calls;
       stage = c.self-2.inside.stage;
       view = c.self-2.inside.view;
       flow = c.self-2.inside.flow;

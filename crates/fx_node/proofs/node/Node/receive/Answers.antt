@@ -1,5 +1,6 @@
 use Rattle.std.proofs.Common.{arith, subst, sym, ◌<◌, ◌∙◌, ℕ, All}
 use Rattle.std.proofs.lemmas.Result.{on_ok_weaker}
+use Rattle.fx_comm.specs.Seats.{Seat}
 use Rattle.fx_machine.specs.Messages.{wire_text}
 use Rattle.fx_node.specs.contracts.node.Node.{the_view}
 use Rattle.fx_node.specs.Standing.{IsNodeOf, Standing}
@@ -14,6 +15,7 @@ invariant_of-self-else-is_err c =
       few = omega (arith, all, sound.few);
       one_of_them = omega (arith, all, sound.one_of_them);
       same = c.receive-kept.ensures.same ∙ sound.same;
+      seats = subst (λ (bound : ℕ). All (λ (s : Seat). s.1.0 < bound) c.self.inside.comm) (sym all) sound.seats;
       members = subst (λ (bound : ℕ). All (λ q. q < bound) c.self.inside.present) (sym all) sound.members;
       count = sound.count;
       apart = sound.apart;

@@ -23,7 +23,7 @@ returns-in_default-clause-goes g c =
     let q_in = subst (λ (s : Standings). c.args.q.0 < s.procs) (sym c.self.view_is) c.requires.receiver in
     let none : None ≡ first_of (link_of before.links c.args.p.0 c.args.q.0) = sym c.in_default.is ∙ c.take.ensures.oldest in
     rw (← c.self.view_is, c.take.ensures.taken) (passes_over _ _ before _ c.args.shown _ (delivering c.args.p.0 c.args.q.0) refl
-    (λ job w plain is. (no_delivery job before w c.args.p.0 c.args.q.0 is p_in q_in none, nothing_taken job before w c.args.p.0 c.args.q.0 c.self.invariant is p_in q_in none)))
+    (λ job w asks is. (no_delivery job before w c.args.p.0 c.args.q.0 is p_in q_in none, nothing_taken job before w c.args.p.0 c.args.q.0 c.self.invariant is p_in q_in none)))
 
 pub returns-in_err-tell-clause-goes : goal.returns-in_err-tell-clause-goes
 returns-in_err-tell-clause-goes g c =
@@ -33,7 +33,7 @@ returns-in_err-tell-clause-goes g c =
     let some : Some c.in-Some.message ≡ first_of (link_of before.links c.args.p.0 c.args.q.0) = sym c.in-Some.is ∙ c.take.ensures.oldest in
     let p = err_from_is_err_and c.from_residual.result c.from_residual.ensures.1 in
     rw (← c.self.view_is, p.1, p.2) (is_cut _ before _ c.args.shown _ _ (delivering c.args.p.0 c.args.q.0) (item.Deliver c.args.p c.args.q c.in-Some.message ∷ []) c.in_err-tell.field-0.0 c.in_err-tell.ensures.writes
-    (λ job w plain is. delivery_begins job before w c.args.p c.args.q c.in-Some.message is p_in q_in some))
+    (λ job w asks is. delivery_begins job before w c.args.p c.args.q c.in-Some.message is p_in q_in some))
 
 pub invariant_of-self-in_err-receive-in-Some-carried : goal.invariant_of-self-in_err-receive-in-Some-carried
 invariant_of-self-in_err-receive-in-Some-carried g c =
@@ -51,7 +51,7 @@ returns-in_err-receive-in-Some-carried-clause-goes g c =
     let some : Some c.in-Some.message ≡ first_of (link_of before.links c.args.p.0 c.args.q.0) = sym c.in-Some.is ∙ c.take.ensures.oldest in
     let p = err_from_is_err_and c.from_residual-in_err-receive-in-Some-carried.result c.from_residual-in_err-receive-in-Some-carried.ensures.1 in
     rw (← c.self.view_is, p.1, p.2) (gives_up _ before _ c.args.shown _ _ (delivering c.args.p.0 c.args.q.0) (item.Deliver c.args.p c.args.q c.in-Some.message ∷ []) c.in_ok-tell.ensures.writes
-    (λ job w plain is. delivery_begins job before w c.args.p c.args.q c.in-Some.message is p_in q_in some))
+    (λ job w asks is. delivery_begins job before w c.args.p c.args.q c.in-Some.message is p_in q_in some))
 
 pub invariant_of-self-in-Some-carried : goal.invariant_of-self-in-Some-carried
 invariant_of-self-in-Some-carried g c =
@@ -68,7 +68,7 @@ returns-in_ok-receive-in-Some-carried-clause-goes g c =
     let q_in = subst (λ (s : Standings). c.args.q.0 < s.procs) (sym c.self.view_is) c.requires.receiver in
     let some : Some c.in-Some.message ≡ first_of (link_of before.links c.args.p.0 c.args.q.0) = sym c.in-Some.is ∙ c.take.ensures.oldest in
     rw (← c.self.view_is) (does_and_tells _ _ before _ c.args.shown _ _ (delivering c.args.p.0 c.args.q.0) (item.Deliver c.args.p c.args.q c.in-Some.message ∷ []) c.in_ok-tell.ensures.writes c.in_ok-tell.ensures.counts
-    (λ job w plain is.
+    (λ job w asks is.
     let same = some_same c.in-Some-carried.message c.in-Some.message (sym c.in-Some-carried.is ∙ c.carried.ensures) in
     delivery_did job before w c.args.p c.args.q c.in-Some.message c.from.result c.receive.new.self c.take.new.self c.tell.new.self c.self.invariant is p_in q_in some c.from.ensures
     (subst (λ (m : Message). Passes (post_of before c.args.q.0) c.receive.new.self (λ d d'. (j : Job) (n : Node) → IsNodeOf j d n → IsNodeOf j d' (receives c.args.p.0 (wire_text m) n))) same

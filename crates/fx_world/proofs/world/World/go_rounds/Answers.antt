@@ -24,4 +24,4 @@ pub returns-clause-goes : goal.returns-clause-goes
 returns-clause-goes g c =
     let all : c.loop.counter ≡ c.args.count = omega (arith, c.loop-test.false, c.loop.auto.counter-end) in
     same_way _ (Ok tt) _ _ c.args.shown _ _ (λ job w. in_rising_order (λ i. in_round job) c.loop.counter w) (in_rounds c.args.count) c.loop.invariant.goes
-    (λ job w plain is. ap (λ n. in_rising_order (λ i. in_round job) n w) all)
+    (λ job w asks is. ap (λ n. in_rising_order (λ i. in_round job) n w) all)

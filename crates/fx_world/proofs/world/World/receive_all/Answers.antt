@@ -15,7 +15,7 @@ returns-in_err-drain-clause-goes g c =
     let apart : (c.loop-process.process == c.args.q.0) ≡ false = grind (arith, nat_tests, c.if-process-q.true) in
     rw (p.1, p.2) (cut_turn _ _ _ c.args.shown _ _ _ (λ job p. draining_other c.args.q.0 p job) c.loop-process.process c.in_err-drain.field-0.0 c.loop-process.invariant.goes
     (same_way _ (Err c.in_err-drain.field-0.0) _ _ c.args.shown _ _ (draining c.loop-process.process c.args.q.0) (draining_other c.args.q.0 c.loop-process.process) c.in_err-drain.ensures.goes
-    (λ job w plain is. other_drain job c.args.q.0 c.loop-process.process w apart))
+    (λ job w asks is. other_drain job c.args.q.0 c.loop-process.process w apart))
     (omega (arith, c.loop-process-test.true, procs)) (λ job p w. other_drain_adds job c.args.q.0 p w))
 
 pub loop-process-preserved : goal.loop-process-preserved
@@ -25,14 +25,14 @@ loop-process-preserved g c = elim c.if-process-q.branch [
       rw (w.self-is, w.sink-is) record {
         goes = turn_on _ _ _ c.args.shown _ _ _ (λ job p. draining_other c.args.q.0 p job) c.loop-process.process c.loop-process.invariant.goes
             (same_way _ (Ok tt) _ _ c.args.shown _ _ (draining c.loop-process.process c.args.q.0) (draining_other c.args.q.0 c.loop-process.process) w.in_ok-drain.ensures.goes
-            (λ job v plain is. other_drain job c.args.q.0 c.loop-process.process v apart));
+            (λ job v asks is. other_drain job c.args.q.0 c.loop-process.process v apart));
         same = record { procs = w.in_ok-drain.ensures.of_all.procs ∙ c.loop-process.invariant.same.procs; fuel = w.in_ok-drain.ensures.of_all.fuel ∙ c.loop-process.invariant.same.fuel };
       }
   | else-process-q w ↦
       let own : (c.loop-process.process == c.args.q.0) ≡ true = grind (arith, nat_tests, w.if-process-q.false) in
       rw (w.self-is, w.sink-is) record {
         goes = turn_on _ _ _ c.args.shown _ _ _ (λ job p. draining_other c.args.q.0 p job) c.loop-process.process c.loop-process.invariant.goes
-            (stays _ tt _ _ c.args.shown _ (draining_other c.args.q.0 c.loop-process.process) refl (λ job v plain is. own_drain job c.args.q.0 c.loop-process.process v own));
+            (stays _ tt _ _ c.args.shown _ (draining_other c.args.q.0 c.loop-process.process) refl (λ job v asks is. own_drain job c.args.q.0 c.loop-process.process v own));
         same = c.loop-process.invariant.same;
       }
 ]

@@ -21,7 +21,7 @@ returns-in_err-apply_all-clause-goes g c =
     let p = err_from_is_err_and c.from_residual.result c.from_residual.ensures.1 in
     rw (p.1, p.2) (whole_cut _ _ c.args.shown _ _ (in_run c.args.moments.now c.args.bound) c.in_err-apply_all.field-0.0
     (stops _ _ c.in_err-apply_all.field-0.0 _ _ c.args.shown _ _ (at_all c.args.moments.now) (in_run c.args.moments.now c.args.bound) (rw c.as_slice.ensures at c.in_err-apply_all.ensures.goes)
-    (λ job w plain is. tail_adds (job_setup job) (rest_bound_of job) c.args.bound (at_all c.args.moments.now job w))))
+    (λ job w asks is. tail_adds (job_setup job) (rest_bound_of job) c.args.bound (at_all c.args.moments.now job w))))
 
 pub returns-then-not-is_over-clause-goes : goal.returns-then-not-is_over-clause-goes
 returns-then-not-is_over-clause-goes g c =

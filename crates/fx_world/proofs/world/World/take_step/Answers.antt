@@ -2,8 +2,9 @@ use Rattle.std.proofs.Common.{Bool, Ok, ◌∙◌, ◌≡◌, ◌<◌, ◌++◌,
 use Rattle.std.proofs.lemmas.List.Elements.{All-nil}
 use Rattle.std.proofs.lemmas.Result.{err_from_is_err_and}
 use Rattle.fx_base.specs.declared.names.Proc.{Proc}
-use Rattle.fx_fleet.specs.Runs.{AsksNothing, job_setup}
+use Rattle.fx_fleet.specs.Runs.{job_setup}
 use Rattle.fx_fleet.specs.World.{World, up}
+use Rattle.fx_node.specs.Asking.{AsksCarried}
 use Rattle.fx_script.specs.declared.job.Job.{Job}
 use Rattle.fx_link.specs.declared.message.Message.{Message}
 use Rattle.fx_world.specs.contracts.world.World.{the_view}
@@ -42,12 +43,12 @@ returns-in_err-carry_out-in-Acted-clause-goes g c =
     let p_in = subst (λ (s : Standings). c.args.p.0 < s.procs) (sym c.self.view_is) c.requires.there in
     let post = post_is before c.self.invariant c.from.result c.args.p.0 c.from.ensures p_in c.index_mut.result.now c.index_mut.ensures.value in
     let passes = rw (post, c.new-sends.ensures, c.clear.ensures, c.in-Acted.is) at c.in_ok-step.ensures.steps in
-    let act = λ (job : Job) (w : World) (plain : AsksNothing job) (is : IsWorldOf job before w) (is_on : up (job_setup job) w c.args.p.0 ≡ true). taken job before w c.args.p.0 c.step.new.self c.step.new.sends c.step.new.items is p_in plain is_on passes in
+    let act = λ (job : Job) (w : World) (asks : AsksCarried job) (is : IsWorldOf job before w) (is_on : up (job_setup job) w c.args.p.0 ≡ true). taken job before w c.args.p.0 c.step.new.self c.step.new.sends c.step.new.items is p_in asks is_on passes in
     let p = err_from_is_err_and c.from_residual-in_err-carry_out-in-Acted.result c.from_residual-in_err-carry_out-in-Acted.ensures.1 in
     rw (← c.self.view_is, p.1, p.2) (is_cut _ before _ c.args.shown _ _ (stepping c.args.p.0) (c.step.new.items ++ map (sent_item c.args.p) c.step.new.sends) c.in_err-carry_out-in-Acted.field-0.0 (rw (c.as_slice.ensures, c.replace-items.ensures.value) at c.in_err-carry_out-in-Acted.ensures.writes)
-    (λ job w plain is.
+    (λ job w asks is.
     let is_on = c.requires.is_up job w (subst (λ (s : Standings). IsWorldOf job s w) c.self.view_is is) in
-    step_begins job w c.args.p c.step.new.self c.step.new.sends c.step.new.items (act job w plain is is_on) is_on))
+    step_begins job w c.args.p c.step.new.self c.step.new.sends c.step.new.items (act job w asks is is_on) is_on))
 
 pub invariant_of-self-in-Quiet-1 : goal.invariant_of-self-in-Quiet-1
 invariant_of-self-in-Quiet-1 g c =
@@ -62,13 +63,13 @@ returns-in_ok-carry_out-in-Acted-clause-goes g c =
     let p_in = subst (λ (s : Standings). c.args.p.0 < s.procs) (sym c.self.view_is) c.requires.there in
     let post = post_is before c.self.invariant c.from.result c.args.p.0 c.from.ensures p_in c.index_mut.result.now c.index_mut.ensures.value in
     let passes = rw (post, c.new-sends.ensures, c.clear.ensures, c.in-Acted.is) at c.in_ok-step.ensures.steps in
-    let act = λ (job : Job) (w : World) (plain : AsksNothing job) (is : IsWorldOf job before w) (is_on : up (job_setup job) w c.args.p.0 ≡ true). taken job before w c.args.p.0 c.step.new.self c.step.new.sends c.step.new.items is p_in plain is_on passes in
+    let act = λ (job : Job) (w : World) (asks : AsksCarried job) (is : IsWorldOf job before w) (is_on : up (job_setup job) w c.args.p.0 ≡ true). taken job before w c.args.p.0 c.step.new.self c.step.new.sends c.step.new.items is p_in asks is_on passes in
     let receivers = c.in_ok-step.ensures.to_processes before.procs (rw post (one_of before c.args.p.0 c.self.invariant p_in)) (rw c.new-sends.ensures (All-nil (λ (x : Proc × Message). x.0.0 < before.procs))) in
     let after : the_view c.self-in-Acted.inside ≡ c.carry_out.new.self = c.self-in-Acted.view_is ∙ c.give_back.ensures in
     rw (← c.self.view_is) (subst (λ (s : Standings). Goes Bool before s c.args.shown (g.K.Sink.state c.args.sink.now) (g.K.Sink.state c.carry_out.new.sink) (stepping c.args.p.0) (Ok true)) (sym after) (does_and_tells _ _ before _ c.args.shown _ _ (stepping c.args.p.0) (c.step.new.items ++ map (sent_item c.args.p) c.step.new.sends) (rw (c.as_slice.ensures, c.replace-items.ensures.value) at c.in_ok-carry_out-in-Acted.ensures.writes) (rw (c.as_slice.ensures, c.replace-items.ensures.value) at c.in_ok-carry_out-in-Acted.ensures.counts)
-    (λ job w plain is.
+    (λ job w asks is.
     let is_on = c.requires.is_up job w (subst (λ (s : Standings). IsWorldOf job s w) c.self.view_is is) in
-    all_did job before c.carry_out.new.self w c.args.p c.from.result c.step.new.self c.step.new.sends c.step.new.items c.self.invariant is p_in c.from.ensures (act job w plain is is_on) is_on receivers (c.in_ok-carry_out-in-Acted.ensures.links job))))
+    all_did job before c.carry_out.new.self w c.args.p c.from.result c.step.new.self c.step.new.sends c.step.new.items c.self.invariant is p_in c.from.ensures (act job w asks is is_on) is_on receivers (c.in_ok-carry_out-in-Acted.ensures.links job))))
 
 pub returns-in_ok-carry_out-in-Acted-clause-acts : goal.returns-in_ok-carry_out-in-Acted-clause-acts
 returns-in_ok-carry_out-in-Acted-clause-acts g c =
@@ -76,11 +77,11 @@ returns-in_ok-carry_out-in-Acted-clause-acts g c =
     let p_in = subst (λ (s : Standings). c.args.p.0 < s.procs) (sym c.self.view_is) c.requires.there in
     let post = post_is before c.self.invariant c.from.result c.args.p.0 c.from.ensures p_in c.index_mut.result.now c.index_mut.ensures.value in
     let passes = rw (post, c.new-sends.ensures, c.clear.ensures, c.in-Acted.is) at c.in_ok-step.ensures.steps in
-    let act = λ (job : Job) (w : World) (plain : AsksNothing job) (is : IsWorldOf job before w) (is_on : up (job_setup job) w c.args.p.0 ≡ true). taken job before w c.args.p.0 c.step.new.self c.step.new.sends c.step.new.items is p_in plain is_on passes in
-    λ job w plain is.
+    let act = λ (job : Job) (w : World) (asks : AsksCarried job) (is : IsWorldOf job before w) (is_on : up (job_setup job) w c.args.p.0 ≡ true). taken job before w c.args.p.0 c.step.new.self c.step.new.sends c.step.new.items is p_in asks is_on passes in
+    λ job w asks is.
     let is_it = subst (λ (s : Standings). IsWorldOf job s w) (sym c.self.view_is) is in
     let is_on = c.requires.is_up job w is in
-    not_quiet job w c.args.p c.step.new.self c.step.new.sends c.step.new.items (act job w plain is_it is_on) is_on
+    not_quiet job w c.args.p c.step.new.self c.step.new.sends c.step.new.items (act job w asks is_it is_on) is_on
 
 pub returns-in-Quiet : goal.returns-in-Quiet
 returns-in-Quiet g c =
@@ -89,16 +90,16 @@ returns-in-Quiet g c =
     let post = post_is before c.self.invariant c.from.result c.args.p.0 c.from.ensures p_in c.index_mut.result.now c.index_mut.ensures.value in
     let passes = rw (post, c.new-sends.ensures, c.clear.ensures) at c.in_ok-step.ensures.steps in
     let other = rests_now c.in_ok-step.field-0 c.in-Quiet.is in
-    let wait = λ (job : Job) (w : World) (plain : AsksNothing job) (is : IsWorldOf job before w) (is_on : up (job_setup job) w c.args.p.0 ≡ true). waits job before w c.args.p.0 c.in_ok-step.field-0 c.step.new.self c.step.new.sends c.step.new.items is p_in plain is_on other passes in
+    let wait = λ (job : Job) (w : World) (asks : AsksCarried job) (is : IsWorldOf job before w) (is_on : up (job_setup job) w c.args.p.0 ≡ true). waits job before w c.args.p.0 c.in_ok-step.field-0 c.step.new.self c.step.new.sends c.step.new.items is p_in asks is_on other passes in
     record {
       goes = rw (← c.self.view_is) (passes_over _ _ before _ c.args.shown _ (stepping c.args.p.0) refl
-          (λ job w plain is.
+          (λ job w asks is.
           let is_on = c.requires.is_up job w (subst (λ (s : Standings). IsWorldOf job s w) c.self.view_is is) in
-          let quiet = wait job w plain is is_on in
+          let quiet = wait job w asks is is_on in
           (no_step job w c.args.p.0 c.step.new.self quiet is_on, waits_on job w c.args.p.0 c.step.new.self quiet is_on before c.from.result c.self.invariant is p_in c.from.ensures)));
-      acts = λ job w plain is.
+      acts = λ job w asks is.
           let is_it = subst (λ (s : Standings). IsWorldOf job s w) (sym c.self.view_is) is in
           let is_on = c.requires.is_up job w is in
-          is_quiet_now job w c.args.p.0 c.step.new.self (wait job w plain is_it is_on) is_on;
+          is_quiet_now job w c.args.p.0 c.step.new.self (wait job w asks is_it is_on) is_on;
       of_all = rw (← c.self.view_is) record { procs = refl; fuel = refl };
     }

@@ -12,7 +12,7 @@ pub returns-in_err-receive_all-clause-goes : goal.returns-in_err-receive_all-cla
 returns-in_err-receive_all-clause-goes g c =
     let p = err_from_is_err_and c.from_residual.result c.from_residual.ensures.1 in
     rw (p.1, p.2) (stops _ _ c.in_err-receive_all.field-0.0 _ _ c.args.shown _ _ (receiving c.args.q.0) (in_turn c.args.q.0) c.in_err-receive_all.ensures.goes
-    (λ job w plain is.
+    (λ job w asks is.
     let on = sym (c.is_up.ensures.world job w is) ∙ c.if-not-is_up.false in
     let x = receiving c.args.q.0 job w in
     subst (λ (y : World). Grows x y) (turn_is job c.args.q.0 w on) (grows_on (learning_adds job c.args.q.0 x) (rest_adds (job_setup job) (rest_bound_of job) c.args.q.0 (learning c.args.q.0 job x)))))
@@ -22,7 +22,7 @@ returns-in_err-learn_all-clause-goes g c =
     let p = err_from_is_err_and c.from_residual-in_err-learn_all.result c.from_residual-in_err-learn_all.ensures.1 in
     rw (p.1, p.2) (stops _ _ c.in_err-learn_all.field-0.0 _ _ c.args.shown _ _ (λ job w. learning c.args.q.0 job (receiving c.args.q.0 job w)) (in_turn c.args.q.0)
     (goes_on _ _ _ _ _ _ c.args.shown _ _ _ (receiving c.args.q.0) (learning c.args.q.0) _ c.in_ok-receive_all.ensures.goes c.in_err-learn_all.ensures.goes)
-    (λ job w plain is.
+    (λ job w asks is.
     let on = sym (c.is_up.ensures.world job w is) ∙ c.if-not-is_up.false in
     let x = learning c.args.q.0 job (receiving c.args.q.0 job w) in
     subst (λ (y : World). Grows x y) (turn_is job c.args.q.0 w on) (rest_adds (job_setup job) (rest_bound_of job) c.args.q.0 x)))
@@ -32,4 +32,4 @@ returns-clause-goes g c =
     same_way _ c.rest.result _ _ c.args.shown _ _ (λ job w. resting c.args.q.0 job (learning c.args.q.0 job (receiving c.args.q.0 job w))) (in_turn c.args.q.0)
     (goes_on _ _ _ _ _ _ c.args.shown _ _ _ (λ job w. learning c.args.q.0 job (receiving c.args.q.0 job w)) (resting c.args.q.0) _
     (goes_on _ _ _ _ _ _ c.args.shown _ _ _ (receiving c.args.q.0) (learning c.args.q.0) (Ok tt) c.in_ok-receive_all.ensures.goes c.in_ok-learn_all.ensures.goes) c.rest.ensures.goes)
-    (λ job w plain is. turn_is job c.args.q.0 w (sym (c.is_up.ensures.world job w is) ∙ c.if-not-is_up.false))
+    (λ job w asks is. turn_is job c.args.q.0 w (sym (c.is_up.ensures.world job w is) ∙ c.if-not-is_up.false))

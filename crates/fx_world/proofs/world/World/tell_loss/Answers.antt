@@ -15,7 +15,7 @@ returns-in_err-tell-clause-goes g c =
     let may : c.may_learn.result ≡ true = grind (arith, nat_tests, c.if-not-may_learn.false, c.if-not-may_learn.ensures) in
     let p = err_from_is_err_and c.from_residual.result c.from_residual.ensures.1 in
     rw (p.1, p.2) (is_cut _ c.args.self.now _ c.args.shown _ _ (noticing c.args.p.0 c.args.q.0) (item.Told c.args.p c.args.q ∷ []) c.in_err-tell.field-0.0 c.in_err-tell.ensures.writes
-    (λ job w plain is. notice_begins job w c.args.p c.args.q (sym (c.may_learn.ensures job w is) ∙ may)))
+    (λ job w asks is. notice_begins job w c.args.p c.args.q (sym (c.may_learn.ensures job w is) ∙ may)))
 
 pub invariant_of-self-2 : goal.invariant_of-self-2
 invariant_of-self-2 g c =
@@ -32,7 +32,7 @@ returns-clause-goes g c =
     let p_in = subst (λ (s : Standings). c.args.p.0 < s.procs) (sym c.self.view_is) c.requires.lost in
     let q_in = subst (λ (s : Standings). c.args.q.0 < s.procs) (sym c.self.view_is) c.requires.told in
     rw (← c.self.view_is) (does_and_tells _ _ before _ c.args.shown _ _ (noticing c.args.p.0 c.args.q.0) (item.Told c.args.p c.args.q ∷ []) c.in_ok-tell.ensures.writes c.in_ok-tell.ensures.counts
-    (λ job w plain is.
+    (λ job w asks is.
     let is_may = sym (c.may_learn.ensures job w (subst (λ (s : Standings). IsWorldOf job s w) c.self.view_is is)) ∙ may in
     notice_did job before w c.args.p c.args.q c.from.result c.notice.new.self c.close_from.new.self c.tell.new.self c.self.invariant is p_in q_in is_may c.from.ensures
     (rw (post_is before c.self.invariant c.from.result c.args.q.0 c.from.ensures q_in c.index_mut.result.now c.index_mut.ensures.value) at c.notice.ensures.learns) c.close_from.ensures))

@@ -1,0 +1,87 @@
+-- What a body may ask for, and the parts of a call.
+use Rattle.std.specs.Prelude.{◌≡◌, ◌<◌, ◌==◌, length, ℕ, Bool, true, false, if◌then◌else◌, List, [], ◌∷◌, ◌++◌, Option, Some, None, option_map}
+use Rattle.fx_base.specs.declared.names.Proc.{Proc}
+use Rattle.fx_check.specs.Facts.{facts_of}
+use Rattle.fx_coll.specs.Keeping.{gives, known_at}
+use Rattle.fx_coll.specs.Machine.{values_in}
+use Rattle.fx_coll.specs.declared.known.Known.{Known}
+use Rattle.fx_coll.specs.declared.part.Part.{Part}
+use Rattle.fx_coll.specs.declared.part.Part.TheVariants as part
+use Rattle.fx_comm.specs.Seats.{Seat}
+use Rattle.fx_link.specs.declared.message.Message.{Message}
+use Rattle.fx_machine.specs.Gathering.{part_of}
+use Rattle.fx_machine.specs.Nodes.{Node, my_place, proc_at}
+use Rattle.fx_machine.specs.Reading.{has_left}
+use Rattle.fx_script.specs.declared.job.Job.{Job}
+use Rattle.fx_text.specs.Names.{is_name}
+use Rattle.fx_walk.specs.State.{State}
+use Rattle.fx_walk.specs.Walk.{Reply, Walk, Ends, Passes, Prints, Asks, walk_of}
+use Rattle.fx_walk.specs.declared.action.View.{View}
+use Rattle.fx_walk.specs.declared.wanted.Wanted.{Wanted}
+use Rattle.fx_walk.specs.declared.wanted.Wanted.TheVariants as wanted
+
+-- ---- what is carried out
+
+-- barriers and reductions are; no other statement that asks something of others is
+abbrev pub is_carried : Wanted → Bool
+is_carried wanted.Barrier = true
+is_carried (wanted.Reduce op own) = true
+is_carried other = false
+
+-- a walk asks only for what is carried out, whatever is replied, and what is printed has a name
+abbrev pub OnlyCarried : Walk → Type 0
+OnlyCarried (Ends state) = Unit {0}
+OnlyCarried (Passes rest) = OnlyCarried rest
+OnlyCarried (Prints printed rest) = (is_name printed.name ≡ true) × OnlyCarried rest
+OnlyCarried (Asks place wanted state rest) = (is_carried wanted ≡ true) × ((reply : Reply) → OnlyCarried (rest reply))
+
+-- the body asks only for what is carried out, whatever it sees and whatever state it begins in
+abbrev pub AsksCarried : Job → Type 0
+AsksCarried job = (view : View) (state : State) → OnlyCarried (walk_of (facts_of job) job.body view state)
+
+-- ---- sending
+
+-- a message to the process of each place but one's own
+abbrev pub to_seats : ℕ → Message → List Seat → List (Proc × Message)
+to_seats me message [] = []
+to_seats me message (seat ∷ seats) = (if seat.1.0 == me then [] else (seat.1, message) ∷ []) ++ to_seats me message seats
+
+-- ---- parts
+
+-- one's own part
+abbrev pub part_in : Wanted → Part
+part_in (wanted.Reduce op own) = part.Number own
+part_in other = part.Empty
+
+-- how many numbers are due from each other place
+abbrev pub due_in : Wanted → ℕ
+due_in (wanted.Reduce op own) = 1
+due_in other = 0
+
+-- a part is of the kind that is asked for: in a reduction a number
+abbrev pub HasKind : Wanted → Option Part → Type 0
+HasKind (wanted.Reduce op own) (Some part.Empty) = ⊥
+HasKind (wanted.Reduce op own) (Some (part.Elems elements)) = ⊥
+HasKind w given = Unit {0}
+
+abbrev pub HaveKind : Wanted → List Known → Type 0
+HaveKind w known = (x : ℕ) → x < length known → HasKind w (known_at known x).part
+
+-- what is known once a part came, if one did
+abbrev pub taken : ℕ → Option Part → List Known → List Known
+taken x None known = known
+taken x (Some given) known = gives x given known
+
+-- ---- what is learnt of a place in a call
+
+-- nothing yet, but one's own part
+pub record IsFresh (n : Node) (w : Wanted) (known : Known) (x : ℕ) : Type 0 where
+  pub part : known.part ≡ (if x == my_place n then Some (part_in w) else None)
+  pub lost : known.lost ≡ false
+  pub left : known.left ≡ false
+
+-- all that the node reads
+pub record IsTold (n : Node) (w : Wanted) (known : Known) (x : ℕ) : Type 0 where
+  pub part : option_map values_in known.part ≡ part_of n w x
+  pub lost : known.lost ≡ n.lost (proc_at n x)
+  pub left : known.left ≡ has_left n (proc_at n x)
