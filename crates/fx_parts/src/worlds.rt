@@ -15,28 +15,42 @@ const SPARE: &str =
 const LOSS: &str =
     "fenix 1|ranks 2|spares 1|separation 1|array a 2|begin|let a + rank index|print a|end|schedule|run 1|step 0|step 0|kill 1|notice 1 0|run 2|stop|";
 
+const REDUCED: &str =
+    "fenix 1|ranks 2|spares 0|separation 1|array a 1|counter c|begin|barrier|let a + rank 1|sum c a|max c a|print c|end|schedule|stop|";
+
+const BARRIER_STRUCK: &str =
+    "fenix 1|ranks 2|spares 1|separation 1|array a 1|begin|barrier|print a|end|schedule|run 1|step 0|step 0|step 0|step 0|kill 1|run 1|stop|";
+
+const BARRIER_REVOKED: &str =
+    "fenix 1|ranks 3|spares 0|separation 1|begin|barrier|barrier|end|schedule|step 0|step 1|step 2|run 1|deliver 2 1|rest 1|kill 1|notice 1 0|deliver 2 0|rest 0|deliver 0 2|deliver 0 2|rest 2|deliver 1 2|rest 2|stop|";
+
 const ALONE: &str =
     "fenix 1|ranks 1|spares 0|separation 1|array a 1|begin|print a|end|schedule|stop|";
 
 const ALONE_WRITES: &str =
     "join 0 1 start|repaired 0 1 1 full : 0=0|init 0 1 initial 0 0 1 full|print 0 1 a : 0|join 0 2 final|ended 0|";
 
-// A run: what it shows, its job, which items are shown, all that is written, and how many were killed and have ended.
+// A run: what it shows, its job, which items are shown, all that is written, and how many epochs and returns of `init` there
+// were, and how many were killed and have ended.
 struct Run {
     shows: &'static str,
     source: &'static str,
     shown: Shown,
     written: &'static str,
+    epochs: u64,
+    inits: u64,
     kills: u64,
     ended: u64,
 }
 
-const RUNS: [Run; 4] = [
+const RUNS: [Run; 7] = [
     Run {
         shows: "two ranks and a spare",
         source: SPARE,
         shown: Shown::Journal,
         written: "join 0 1 start|join 1 1 start|join 2 1 start|repaired 2 1 2 full : 0=0 1=1|repaired 0 1 2 full : 0=0 1=1|init 0 1 initial 0 0 2 full|print 0 1 a : 0 1|join 0 2 final|repaired 1 1 2 full : 0=0 1=1|init 1 1 initial 1 1 2 full|print 1 1 a : 1 2|join 1 2 final|join 2 2 spare|ended 2|ended 0|ended 1|",
+        epochs: 1,
+        inits: 2,
         kills: 0,
         ended: 3,
     },
@@ -45,6 +59,8 @@ const RUNS: [Run; 4] = [
         source: SPARE,
         shown: Shown::Only(Proc(1)),
         written: "join 1 1 start|repaired 1 1 2 full : 0=0 1=1|init 1 1 initial 1 1 2 full|print 1 1 a : 1 2|join 1 2 final|ended 1|",
+        epochs: 1,
+        inits: 2,
         kills: 0,
         ended: 3,
     },
@@ -53,6 +69,8 @@ const RUNS: [Run; 4] = [
         source: SPARE,
         shown: Shown::Nothing,
         written: "",
+        epochs: 1,
+        inits: 2,
         kills: 0,
         ended: 3,
     },
@@ -61,6 +79,38 @@ const RUNS: [Run; 4] = [
         source: LOSS,
         shown: Shown::Wire,
         written: "join 0 1 start|send 0 1 join 1 start|send 0 2 join 1 start|deliver 0 1 join 1 start|join 1 1 start|send 1 0 join 1 start|send 1 2 join 1 start|deliver 0 2 join 1 start|deliver 1 2 join 1 start|join 2 1 start|send 2 0 join 1 start|send 2 1 join 1 start|kill 1|told 1 0|deliver 2 0 join 1 start|send 0 1 jest 1 0 start,lost,start|send 0 2 jest 1 0 start,lost,start|deliver 0 2 jest 1 0 start,lost,start|told 1 2|send 2 0 jest 1 2 start,lost,start|send 2 1 jest 1 2 start,lost,start|repaired 2 1 2 full : 0=0 1=2|init 2 1 initial 1 1 2 full|print 2 1 a : 1 2|join 2 2 final|send 2 0 join 2 final|deliver 2 0 jest 1 2 start,lost,start|deliver 2 0 join 2 final|repaired 0 1 2 full : 0=0 1=2|init 0 1 initial 0 0 2 full|print 0 1 a : 0 1|join 0 2 final|send 0 2 join 2 final|send 0 2 jest 2 0 final,final|deliver 0 2 join 2 final|deliver 0 2 jest 2 0 final,final|send 2 0 jest 2 1 final,final|ended 2|deliver 2 0 jest 2 1 final,final|ended 0|",
+        epochs: 1,
+        inits: 2,
+        kills: 1,
+        ended: 2,
+    },
+    Run {
+        shows: "a barrier, a sum and a greatest",
+        source: REDUCED,
+        shown: Shown::Wire,
+        written: "join 0 1 start|send 0 1 join 1 start|deliver 0 1 join 1 start|join 1 1 start|send 1 0 join 1 start|deliver 1 0 join 1 start|send 0 1 jest 1 0 start,start|deliver 0 1 jest 1 0 start,start|send 1 0 jest 1 1 start,start|repaired 1 1 2 full : 0=0 1=1|init 1 1 initial 1 1 2 full|barrier 1 1 1|send 1 0 part 1 1 :|deliver 1 0 jest 1 1 start,start|deliver 1 0 part 1 1 :|repaired 0 1 2 full : 0=0 1=1|init 0 1 initial 0 0 2 full|barrier 0 1 1|send 0 1 part 1 1 :|passed 0 1 1|reduce 0 1 2 sum 1|send 0 1 part 1 2 : 1|deliver 0 1 part 1 1 :|deliver 0 1 part 1 2 : 1|passed 1 1 1|reduce 1 1 2 sum 2|send 1 0 part 1 2 : 2|value 1 1 2 3|reduce 1 1 3 max 2|send 1 0 part 1 3 : 2|deliver 1 0 part 1 2 : 2|deliver 1 0 part 1 3 : 2|value 0 1 2 3|reduce 0 1 3 max 1|send 0 1 part 1 3 : 1|value 0 1 3 2|print 0 1 c : 2|join 0 2 final|send 0 1 join 2 final|deliver 0 1 part 1 3 : 1|deliver 0 1 join 2 final|value 1 1 3 2|print 1 1 c : 2|join 1 2 final|send 1 0 join 2 final|deliver 1 0 join 2 final|send 0 1 jest 2 0 final,final|deliver 0 1 jest 2 0 final,final|send 1 0 jest 2 1 final,final|ended 1|deliver 1 0 jest 2 1 final,final|ended 0|",
+        epochs: 1,
+        inits: 2,
+        kills: 0,
+        ended: 2,
+    },
+    Run {
+        shows: "a barrier that fails by a loss",
+        source: BARRIER_STRUCK,
+        shown: Shown::Journal,
+        written: "join 0 1 start|join 1 1 start|join 2 1 start|kill 1|repaired 2 1 2 full : 0=0 1=1|join 2 2 spare|repaired 0 1 2 full : 0=0 1=1|init 0 1 initial 0 0 2 full|barrier 0 1 1|failed 0 1 1 1|join 0 2 error|repaired 2 2 2 full : 0=0 1=2|init 2 2 recovered 1 1 2 full|barrier 2 2 1|repaired 0 2 2 full : 0=0 1=2|init 0 2 survivor 0 0 2 full|barrier 0 2 1|passed 0 2 1|print 0 2 a : 0|join 0 3 final|passed 2 2 1|print 2 2 a : 0|join 2 3 final|ended 2|ended 0|",
+        epochs: 2,
+        inits: 3,
+        kills: 1,
+        ended: 2,
+    },
+    Run {
+        shows: "a barrier that passes at one and fails at another, and one that is revoked",
+        source: BARRIER_REVOKED,
+        shown: Shown::Journal,
+        written: "join 0 1 start|join 1 1 start|join 2 1 start|repaired 2 1 3 full : 0=0 1=1 2=2|init 2 1 initial 2 2 3 full|barrier 2 1 1|repaired 1 1 3 full : 0=0 1=1 2=2|init 1 1 initial 1 1 3 full|barrier 1 1 1|kill 1|repaired 0 1 3 full : 0=0 1=1 2=2|init 0 1 initial 0 0 3 full|barrier 0 1 1|failed 0 1 1 1|join 0 2 error|passed 2 1 1|barrier 2 1 2|revoked 2 1 2 0|join 2 2 error|repaired 2 2 2 spares-depleted : 0=0 2=2|init 2 2 survivor 2 1 2 spares-depleted|barrier 2 2 1|repaired 0 2 2 spares-depleted : 0=0 2=2|init 0 2 survivor 0 0 2 spares-depleted|barrier 0 2 1|passed 0 2 1|barrier 0 2 2|passed 2 2 1|barrier 2 2 2|passed 2 2 2|join 2 3 final|passed 0 2 2|join 0 3 final|ended 2|ended 0|",
+        epochs: 2,
+        inits: 5,
         kills: 1,
         ended: 2,
     },
@@ -102,8 +152,8 @@ fn worlds_run_to_their_end(rt: HostRuntime) -> Result<(), Fail> {
         );
         let is_counted = match end {
             Ok(counts) => {
-                counts.epochs == 1
-                    && counts.inits == 2
+                counts.epochs == row.epochs
+                    && counts.inits == row.inits
                     && counts.kills == row.kills
                     && counts.ended == row.ended
             }
