@@ -1,0 +1,61 @@
+//! Laws of runs with any events, kills and notices among them, of jobs whose body makes calls.
+
+ghost use Rattle.std.specs.Prelude.{◌≡◌, ◌++◌, ℕ, true, List};
+ghost use Rattle.std.specs.List.{filter, list_all};
+ghost use Rattle.fx_script.specs.declared.job.Job.{Job};
+ghost use Rattle.fx_check.specs.Acceptance.{IsAccepted};
+ghost use Rattle.fx_check.specs.Work.{bound_of};
+ghost use Rattle.fx_fleet.specs.Rounds.{is_of_journal, all_happen, journal, Moment, all_over, whole};
+ghost use Rattle.fx_fleet.specs.World.{first_world};
+ghost use Rattle.fx_fleet.specs.Runs.{AsksNothing, job_setup, moments_of, rest_bound_of, journal_of};
+ghost use Rattle.fx_legal.specs.Legal.{IsLegal, IsLegalWhole, AllHaveEnded};
+ghost use Rattle.fx_script.specs.Spelling.{stmts_fit};
+ghost use Rattle.fx_calls.specs.Bodies.{AsksNoGroups, AsksParts, AsksSums, is_groupless};
+ghost use Rattle.fx_losses.specs.Losses.{EachEpochHasItsLoss};
+
+use fx_walk::laws::all_ranks_have_one_plan;
+
+/// A body that asks nothing asks no parts and no sums, and one that asks nothing but parts, or nothing but sums, asks nothing of data groups.
+pub fn bodies_that_ask_less()
+    ensures nothing { (job : Job) → AsksNothing job → AsksNoGroups job }
+    ensures nothing_of_parts { (job : Job) → AsksNothing job → AsksParts job }
+    ensures parts { (job : Job) → AsksParts job → AsksNoGroups job }
+    ensures nothing_of_sums { (job : Job) → AsksNothing job → AsksSums job }
+    ensures sums { (job : Job) → AsksSums job → AsksNoGroups job }
+{}
+
+/// A body of statements that can be written, none of them on a data group, asks nothing of data groups.
+pub fn groupless_bodies_ask_no_groups()
+    ensures { (job : Job) (room : ℕ) → stmts_fit job.body room ≡ true → list_all is_groupless job.body ≡ true → AsksNoGroups job }
+{}
+
+/// The journal of an accepted job whose body asks nothing of data groups is legal and tells the whole schedule,
+/// whatever its events are; and so it is with any other fuel of a rest and any other bound of the tail. Behind a front of the schedule
+/// what is written so far is legal.
+pub fn journals_are_legal()
+    ensures whole { (job : Job) → IsAccepted job → AsksNoGroups job → IsLegalWhole job (journal_of job) }
+    ensures within { (job : Job) → IsAccepted job → AsksNoGroups job → (fuel bound : ℕ) → IsLegalWhole job (journal (job_setup job) fuel bound (moments_of job)) }
+    ensures so_far { (job : Job) → IsAccepted job → AsksNoGroups job → (fuel : ℕ) (front more : List Moment) → moments_of job ≡ front ++ more
+        → IsLegal job (filter is_of_journal (all_happen (job_setup job) fuel front (first_world (job_setup job))).items) }
+{
+    all_ranks_have_one_plan();
+}
+
+/// Where each process that wasn't killed has ended behind the tail of such a run, the journal shows an end or a kill of each; and where
+/// it shows that, each has ended.
+pub fn journals_show_all_ends()
+    ensures once_over { (job : Job) → IsAccepted job → AsksNoGroups job
+        → all_over (job_setup job) (whole (job_setup job) (rest_bound_of job) (bound_of job) (moments_of job)) ≡ true → AllHaveEnded job (journal_of job) }
+    ensures only_then { (job : Job) → IsAccepted job → AsksNoGroups job
+        → AllHaveEnded job (journal_of job) → all_over (job_setup job) (whole (job_setup job) (rest_bound_of job) (bound_of job) (moments_of job)) ≡ true }
+{
+    all_ranks_have_one_plan();
+}
+
+/// Each epoch of the journal of an accepted job whose body asks nothing but barriers and reductions has its loss, whatever its events are:
+/// before it is repaired, a process that had a place in the epoch before it was killed, from epoch 2 on.
+pub fn each_epoch_has_its_loss()
+    ensures { (job : Job) → IsAccepted job → AsksSums job → EachEpochHasItsLoss job (journal_of job) }
+{
+    all_ranks_have_one_plan();
+}
