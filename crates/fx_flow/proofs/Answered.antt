@@ -1,20 +1,21 @@
 -- An outward statement that is answered goes on as the walk does.
-use Rattle.std.proofs.Common.{◌≡◌, ℕ, List, length, Option, Some, None, refl, ap, sym, subst, ◌∙◌}
-use Rattle.std.specs.Prelude.{ℤ, IsSomeAnd}
+use Rattle.std.proofs.Common.{◌≡◌, ℕ, List, [], Some, refl, ap, sym, subst, ◌∙◌}
+use Rattle.std.specs.Prelude.{ℤ}
 use Rattle.std.specs.FinMap.{FinMap}
 use Rattle.std.specs.Ordering.{nat_cmp}
 use Rattle.fx_base.specs.declared.names.MemberId.{MemberId}
 use Rattle.fx_script.specs.declared.job.Job.{Job}
 use Rattle.fx_walk.specs.declared.action.View.{View}
 use Rattle.fx_walk.specs.State.{State, restored_from}
-use Rattle.fx_walk.specs.Walk.{Given, Nothing, Number, Elements, Entries, Walk}
+use Rattle.fx_walk.specs.Walk.{Given, Nothing, Number, Elements, Entries, Reply, Walk, Ends, Passes, Prints, Asks, view_after}
 use Rattle.fx_value.proofs.Shapes.{shaped_counter, shaped_array}
 use Rattle.fx_flow.specs.declared.instr.Outward.{Outward}
 use Rattle.fx_flow.specs.declared.instr.Outward.TheVariants as outward
 use Rattle.fx_flow.specs.Code.{Stand}
-use Rattle.fx_flow.specs.Flowing.{Flowing, TakesElements, outward_of, counter_of, target_of, restored_of, DoesRest, WasAnswered, IsFlowOf}
+use Rattle.fx_flow.specs.Flowing.{Flowing, outward_of, counter_of, target_of, restored_of, DoesRest, WasAnswered, IsFlowOf, IsGivenFitting}
 use Rattle.fx_flow.specs.Outward.{array_at, taken_by, takes_number, takes_elements, takes_entries}
-use Rattle.fx_flow.proofs.Kept.{at_stand, length_restored}
+use Rattle.fx_value.proofs.Staying.{length_restored}
+use Rattle.fx_flow.proofs.Kept.{at_stand, stands_shaped}
 use Rattle.fx_flow.proofs.Went.{answered}
 
 -- ---- what is taken
@@ -77,11 +78,16 @@ number_stays old c next counter n at job of =
     subst (λ (d : Stand). IsFlowOf job (record old { stand = d })) (sym at)
     (at_stand job old (record old { stand = record old.stand { place = next; state = takes_number counter old.stand.state (Number n) } }) refl (λ shaped. shaped_counter job.names old.stand.state counter n shaped) of)
 
-pub elements_stay : (old : Flowing) (c : Stand) (next target : ℕ) (elements : List ℤ) → length elements ≡ length (array_at old.stand.state target)
-    → c ≡ record old.stand { place = next; state = takes_elements target old.stand.state (Elements elements) } → StaysOf old (record old { stand = c })
-elements_stay old c next target elements fits at job of =
-    subst (λ (d : Stand). IsFlowOf job (record old { stand = d })) (sym at)
-    (at_stand job old (record old { stand = record old.stand { place = next; state = takes_elements target old.stand.state (Elements elements) } }) refl (λ shaped. shaped_array job.names old.stand.state target elements fits shaped) of)
+-- elements that fit leave the state in the declared shape
+pub elements_stay : (old new : Flowing) (elements : List ℤ) → new ≡ record old { stand = new.stand } → GoesOn (Elements elements) old new
+    → (job : Job) (view : View) (walk : Walk) → IsFlowOf job old → DoesRest view walk old → IsGivenFitting job.names walk (Elements elements) → IsFlowOf job new
+elements_stay old new elements same goes job view (Ends state) of does fits = absurd fits
+elements_stay old new elements same goes job view (Passes rest) of does fits = absurd fits
+elements_stay old new elements same goes job view (Prints printed rest) of does fits = absurd fits
+elements_stay old new elements same goes job view (Asks place wanted state rest) of does fits =
+    let reply : Reply = record { given = Elements elements; latest = [] } in
+    at_stand job old new same
+    (λ shaped. stands_shaped job.names new.code (view_after view reply) (rest reply) new.stand (fits.0.1 reply fits.1) (goes view (Asks place wanted state rest) [] does)) of
 
 pub entries_stay : (old : Flowing) (c : Stand) (next array : ℕ) (entries : FinMap nat_cmp ℤ)
     → c ≡ record old.stand { place = next; state = takes_entries array old.stand.state (Entries entries) } → StaysOf old (record old { stand = c })
@@ -94,14 +100,3 @@ pub place_stays : (old : Flowing) (c : Stand) (next : ℕ) → c ≡ record old.
 place_stays old c next at job of =
     subst (λ (d : Stand). IsFlowOf job (record old { stand = d })) (sym at)
     (at_stand job old (record old { stand = record old.stand { place = next } }) refl (λ shaped. shaped) of)
-
--- as many elements as the array has
-fits_by : (state : State) (target count : ℕ) (t : Option ℕ) → Some target ≡ t → IsSomeAnd t (λ array. count ≡ length (array_at state array)) → count ≡ length (array_at state target)
-fits_by state target count None e h = absurd cc
-fits_by state target count (Some array) e h = let same : target ≡ array = cc in rw same h
-
-pub elements_fit : (state : State) (due : Option (Outward × ℕ)) (pair : Outward × ℕ) (target count : ℕ) → Some pair ≡ due → Some target ≡ target_of pair.0 → TakesElements state due count → count ≡ length (array_at state target)
-elements_fit state None pair target count e is h = absurd cc
-elements_fit state (Some d) pair target count e is h =
-    let same : pair ≡ d = cc in
-    fits_by state target count (target_of d.0) (is ∙ ap (λ (q : Outward × ℕ). target_of q.0) same) h

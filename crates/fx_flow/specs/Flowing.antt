@@ -3,6 +3,7 @@ use Rattle.std.specs.Prelude.{◌≡◌, ℕ, Bool, true, List, [], ◌∷◌, l
 use Rattle.std.specs.Str.{bytes_eq}
 use Rattle.fx_base.specs.declared.names.MemberId.{MemberId}
 use Rattle.fx_script.specs.declared.job.Callback.{Callback}
+use Rattle.fx_script.specs.declared.job.Decl.{Decl}
 use Rattle.fx_script.specs.declared.job.Job.{Job}
 use Rattle.fx_script.specs.declared.job.Stmt.{Stmt}
 use Rattle.fx_check.specs.Acceptance.{callback_body_lines}
@@ -15,8 +16,8 @@ use Rattle.fx_walk.specs.declared.printed.Printed.{Printed}
 use Rattle.fx_walk.specs.declared.wanted.Wanted.{Wanted}
 use Rattle.fx_walk.specs.declared.wanted.Wanted.TheVariants as wanted
 use Rattle.fx_walk.specs.State.{State}
-use Rattle.fx_walk.specs.Walk.{Reply, Walk, Passes, Prints, Asks, view_after}
-use Rattle.fx_value.specs.Shape.{IsShaped}
+use Rattle.fx_walk.specs.Walk.{Given, Reply, Walk, Passes, Prints, Asks, view_after}
+use Rattle.fx_value.specs.Shape.{Fits, IsShaped, StaysShaped}
 use Rattle.fx_flow.specs.declared.instr.Instr.{Instr}
 use Rattle.fx_flow.specs.declared.instr.Instr.TheVariants as instr
 use Rattle.fx_flow.specs.declared.instr.Loop.{Loop}
@@ -24,7 +25,6 @@ use Rattle.fx_flow.specs.declared.instr.Outward.{Outward}
 use Rattle.fx_flow.specs.declared.instr.Outward.TheVariants as outward
 use Rattle.fx_flow.specs.declared.instr.Routine.{Routine}
 use Rattle.fx_flow.specs.Code.{Stand, Follows, IsCode, Leads, start}
-use Rattle.fx_flow.specs.Outward.{array_at}
 
 -- the code of a job's body and of its callbacks, where the body begins, and where a rank stands
 pub record Flowing : Type 0 where
@@ -83,9 +83,9 @@ abbrev pub TakesNumber : Option (Outward × ℕ) → Type 0
 TakesNumber None = ⊥
 TakesNumber (Some due) = is_some (counter_of due.0) ≡ true
 
-abbrev pub TakesElements : State → Option (Outward × ℕ) → ℕ → Type 0
-TakesElements state None count = ⊥
-TakesElements state (Some due) count = IsSomeAnd (target_of due.0) (λ array. count ≡ length (array_at state array))
+abbrev pub TakesElements : Option (Outward × ℕ) → Type 0
+TakesElements None = ⊥
+TakesElements (Some due) = is_some (target_of due.0) ≡ true
 
 abbrev pub TakesEntries : Option (Outward × ℕ) → MemberId → Type 0
 TakesEntries None member = ⊥
@@ -95,9 +95,9 @@ TakesEntries (Some due) member = IsSomeAnd (restored_of due.0) (λ restored. res
 abbrev pub WantsNumber : Flowing → Type 0
 WantsNumber flow = TakesNumber (outward_of flow)
 
--- a shift comes next, to an array of so many elements
-abbrev pub WantsElements : Flowing → ℕ → Type 0
-WantsElements flow count = TakesElements (state_of flow) (outward_of flow) count
+-- a shift comes next
+abbrev pub WantsElements : Flowing → Type 0
+WantsElements flow = TakesElements (outward_of flow)
 
 -- a restore of this member comes next
 abbrev pub WantsEntries : Flowing → MemberId → Type 0
@@ -107,6 +107,7 @@ WantsEntries flow member = TakesEntries (outward_of flow) member
 abbrev pub TellsNeed : Flowing → Wanted → Type 0
 TellsNeed flow (wanted.Reduce op n) = WantsNumber flow
 TellsNeed flow (wanted.Agree n) = WantsNumber flow
+TellsNeed flow (wanted.Shift by elements) = WantsElements flow
 TellsNeed flow (wanted.Restore group member stamp) = WantsEntries flow member
 TellsNeed flow other = Unit {0}
 
@@ -131,6 +132,11 @@ before (Some printed) rest = Prints printed rest
 abbrev pub AsksFor : Walk → Wanted → Type 0
 AsksFor (Asks place wanted state rest) told = told ≡ wanted
 AsksFor other told = ⊥
+
+-- the walk stays in the declared shape, and this fits what it asks next
+abbrev pub IsGivenFitting : List Decl → Walk → Given → Type 0
+IsGivenFitting names (Asks place wanted state rest) given = StaysShaped names (Asks place wanted state rest) × Fits wanted given
+IsGivenFitting names other given = ⊥
 
 -- the walk's next statement was answered
 abbrev pub WasAnswered : View → Walk → Reply → Flowing → Type 0

@@ -1,4 +1,4 @@
-ghost use Rattle.std.specs.Prelude.{◌≡◌, ℤ, List, [], Some, None, IfOk, OnOk, OnErr, length, slice_get};
+ghost use Rattle.std.specs.Prelude.{◌≡◌, ℤ, List, [], Some, None, IfOk, OnOk, OnErr, slice_get};
 ghost use Rattle.std.specs.List.{find};
 ghost use Rattle.std.specs.Option.{option_map};
 ghost use Rattle.fx_script.specs.declared.job.Job.{Job};
@@ -14,7 +14,7 @@ ghost use Rattle.fx_walk.specs.Walk.{Elements, Entries, Nothing, Number, Walk, w
 ghost use Rattle.fx_flow.specs.declared.instr.Instr.TheVariants as instr;
 ghost use Rattle.fx_flow.specs.Code.{Moves, acts};
 ghost use Rattle.fx_flow.specs.Emits.{Grows};
-ghost use Rattle.fx_flow.specs.Flowing.{AreRoutines, AsksFor, DoesRest, IsAtBegin, IsDue, IsFlowOf, Ran, TellsNeed, WantsElements, WantsEntries, WantsNumber, WasAnswered, WentOn, before, counter_of, is_routine_of, next_of, outward_in, part_of, restored_of, state_of, target_of};
+ghost use Rattle.fx_flow.specs.Flowing.{AreRoutines, AsksFor, DoesRest, IsAtBegin, IsDue, IsFlowOf, IsGivenFitting, Ran, TellsNeed, WantsElements, WantsEntries, WantsNumber, WasAnswered, WentOn, before, counter_of, is_routine_of, next_of, outward_in, part_of, restored_of, state_of, target_of};
 
 use crate::asking::wanted_by;
 use crate::cursor::Cursor;
@@ -164,12 +164,12 @@ impl Flow {
         }
     }
 
-    /// Answers a shift, which must be wanted: the elements become those of its array, which has as
-    /// many.
+    /// Answers a shift, which must be wanted: the elements become those of its array. The flow stays
+    /// one of its job where they are as many as the shift gives away.
     pub fn give_array(&mut self, values: Elems)
-        requires { WantsElements self.old (length values) }
+        requires { WantsElements self.old }
         ensures goes_on { (view : View) (walk : Walk) (latest : List ℤ) → DoesRest view walk self.old → WasAnswered view walk (record { given = Elements values; latest = latest }) self.new }
-        ensures same_job { (job : Job) → IsFlowOf job self.old → IsFlowOf job self.new }
+        ensures same_job { (job : Job) (view : View) (walk : Walk) → IsFlowOf job self.old → DoesRest view walk self.old → IsGivenFitting job.names walk (Elements values) → IsFlowOf job self.new }
     {
         if let Some((what, next)) = outward_at(&self.code.instrs, self.cursor.place())
             && let Some(target) = target_of(what)

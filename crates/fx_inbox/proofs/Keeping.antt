@@ -15,8 +15,10 @@ use Rattle.fx_machine.specs.Messages.{wire_text}
 use Rattle.fx_ballot.specs.Names.{seat_of}
 use Rattle.fx_ballot.specs.World.{put}
 use Rattle.fx_machine.specs.Nodes.{Node}
-use Rattle.fx_machine.specs.Reading.{OfEpoch, first_read, only, part_in, is_past_at, vote_in, estimate_in, is_join, is_lost, are_same, fits, vote_of, estimate_of, next_ballot}
+use Rattle.fx_machine.specs.Reading.{About, Ballot, OfCall, OfEpoch, first_read, only, part_in, is_past_at, vote_in, estimate_in, are_same, fits, may_stand, vote_of, estimate_of}
 use Rattle.fx_machine.specs.Texts.{Text, Join, Jest, Part, Vote, Est, Share, Tell, Help, Give}
+use Rattle.fx_inbox.specs.Ballots.{IsNow, about_of, ballot_of}
+use Rattle.fx_inbox.specs.declared.ballot.Ballot.{Ballot as Described}
 use Rattle.fx_inbox.specs.declared.estimate.Measure.{Measure}
 use Rattle.fx_inbox.specs.Keeping.{Kept, Knows, IsInboxOf, current, goes_on, part_from, texts_from}
 use Rattle.fx_inbox.specs.Measures.{is_estimate_in, is_fit}
@@ -51,27 +53,59 @@ past_later before calls e k (Tell d j known) on = grind (arith, nat_tests)
 past_later before calls e k (Help d j packed) on = grind (arith, nat_tests)
 past_later before calls e k (Give d j packed) on = grind (arith, nat_tests)
 
-pub no_vote : (e k : ℕ) (test : Slot → Bool) (t : Text) → not (is_past_at e k t) ≡ false → only test (vote_in (OfEpoch (suc e)) t) ≡ None
-no_vote e k test (Join d x) = grind (arith, nat_tests)
-no_vote e k test (Jest d r slots) = λ h. refl
-no_vote e k test (Part d j values) = λ h. refl
-no_vote e k test (Vote d j x) = λ h. refl
-no_vote e k test (Est d j r slots) = λ h. refl
-no_vote e k test (Share d j packed) = λ h. refl
-no_vote e k test (Tell d j known) = λ h. refl
-no_vote e k test (Help d j packed) = λ h. refl
-no_vote e k test (Give d j packed) = λ h. refl
+no_join : (e k : ℕ) (test : Slot → Bool) (t : Text) → not (is_past_at e k t) ≡ false → only test (vote_in (OfEpoch (suc e)) t) ≡ None
+no_join e k test (Join d x) = grind (arith, nat_tests)
+no_join e k test (Jest d q slots) = λ h. refl
+no_join e k test (Part d j values) = λ h. refl
+no_join e k test (Vote d j x) = λ h. refl
+no_join e k test (Est d j q slots) = λ h. refl
+no_join e k test (Share d j packed) = λ h. refl
+no_join e k test (Tell d j known) = λ h. refl
+no_join e k test (Help d j packed) = λ h. refl
+no_join e k test (Give d j packed) = λ h. refl
 
-pub no_estimate : (e k r : ℕ) (test : List Slot → Bool) (t : Text) → not (is_past_at e k t) ≡ false → only test (estimate_in (OfEpoch (suc e)) r t) ≡ None
-no_estimate e k r test (Join d x) = λ h. refl
-no_estimate e k r test (Jest d q slots) = grind (arith, nat_tests)
-no_estimate e k r test (Part d j values) = λ h. refl
-no_estimate e k r test (Vote d j x) = λ h. refl
-no_estimate e k r test (Est d j q slots) = λ h. refl
-no_estimate e k r test (Share d j packed) = λ h. refl
-no_estimate e k r test (Tell d j known) = λ h. refl
-no_estimate e k r test (Help d j packed) = λ h. refl
-no_estimate e k r test (Give d j packed) = λ h. refl
+no_call_vote : (e k : ℕ) (test : Slot → Bool) (t : Text) → not (is_past_at e k t) ≡ false → only test (vote_in (OfCall e k) t) ≡ None
+no_call_vote e k test (Join d x) = λ h. refl
+no_call_vote e k test (Jest d q slots) = λ h. refl
+no_call_vote e k test (Part d j values) = λ h. refl
+no_call_vote e k test (Vote d j x) = grind (arith, nat_tests)
+no_call_vote e k test (Est d j q slots) = λ h. refl
+no_call_vote e k test (Share d j packed) = λ h. refl
+no_call_vote e k test (Tell d j known) = λ h. refl
+no_call_vote e k test (Help d j packed) = λ h. refl
+no_call_vote e k test (Give d j packed) = λ h. refl
+
+-- what is past is no vote in a ballot of now
+pub no_vote : (e k : ℕ) (about : About) (test : Slot → Bool) (t : Text) → IsNow e k about → not (is_past_at e k t) ≡ false → only test (vote_in about t) ≡ None
+no_vote e k (OfEpoch d) test t now past = ap (λ (d : ℕ). only test (vote_in (OfEpoch d) t)) now ∙ no_join e k test t past
+no_vote e k (OfCall d j) test t now past = (λ i. only test (vote_in (OfCall (now.0 i) (now.1 i)) t)) ∙ no_call_vote e k test t past
+
+no_joint_estimate : (e k r : ℕ) (test : List Slot → Bool) (t : Text) → not (is_past_at e k t) ≡ false → only test (estimate_in (OfEpoch (suc e)) r t) ≡ None
+no_joint_estimate e k r test (Join d x) = λ h. refl
+no_joint_estimate e k r test (Jest d q slots) = grind (arith, nat_tests)
+no_joint_estimate e k r test (Part d j values) = λ h. refl
+no_joint_estimate e k r test (Vote d j x) = λ h. refl
+no_joint_estimate e k r test (Est d j q slots) = λ h. refl
+no_joint_estimate e k r test (Share d j packed) = λ h. refl
+no_joint_estimate e k r test (Tell d j known) = λ h. refl
+no_joint_estimate e k r test (Help d j packed) = λ h. refl
+no_joint_estimate e k r test (Give d j packed) = λ h. refl
+
+no_call_estimate : (e k r : ℕ) (test : List Slot → Bool) (t : Text) → not (is_past_at e k t) ≡ false → only test (estimate_in (OfCall e k) r t) ≡ None
+no_call_estimate e k r test (Join d x) = λ h. refl
+no_call_estimate e k r test (Jest d q slots) = λ h. refl
+no_call_estimate e k r test (Part d j values) = λ h. refl
+no_call_estimate e k r test (Vote d j x) = λ h. refl
+no_call_estimate e k r test (Est d j q slots) = grind (arith, nat_tests)
+no_call_estimate e k r test (Share d j packed) = λ h. refl
+no_call_estimate e k r test (Tell d j known) = λ h. refl
+no_call_estimate e k r test (Help d j packed) = λ h. refl
+no_call_estimate e k r test (Give d j packed) = λ h. refl
+
+-- what is past is no estimate in a ballot of now
+pub no_estimate : (e k : ℕ) (about : About) (r : ℕ) (test : List Slot → Bool) (t : Text) → IsNow e k about → not (is_past_at e k t) ≡ false → only test (estimate_in about r t) ≡ None
+no_estimate e k (OfEpoch d) r test t now past = ap (λ (d : ℕ). only test (estimate_in (OfEpoch d) r t)) now ∙ no_joint_estimate e k r test t past
+no_estimate e k (OfCall d j) r test t now past = (λ i. only test (estimate_in (OfCall (now.0 i) (now.1 i)) r t)) ∙ no_call_estimate e k r test t past
 
 pub no_part : (e k : ℕ) (test : List ℤ → Bool) (t : Text) → not (is_past_at e k t) ≡ false → only test (part_in e k t) ≡ None
 no_part e k test (Join d x) = λ h. refl
@@ -93,70 +127,74 @@ reads_alike e k read xs ys unread same =
     ∙ ap (λ (ts : List Text). first_read read ts) same
     ∙ read_kept read (λ t. not (is_past_at e k t)) ys unread
 
-pub votes_alike : (n : Node) (box : Kept) (e q : ℕ) → IsInboxOf n box → n.epoch ≡ e
-    → first_read (λ t. only (λ x. (q == box.me) || is_join (suc e) x) (vote_in (OfEpoch (suc e)) t)) (texts_from box q) ≡ vote_of (next_ballot n) n q
-votes_alike n box e q know at =
-    (λ i. first_read (λ t. only (λ x. (q == know.same i) || is_join (suc (sym at i)) x) (vote_in (OfEpoch (suc (sym at i))) t)) (texts_from box q))
-    ∙ reads_alike n.epoch n.calls (λ t. only (λ x. (q == n.me) || is_join (suc n.epoch) x) (vote_in (OfEpoch (suc n.epoch)) t)) (texts_from box q) (n.texts q)
-    (no_vote n.epoch n.calls (λ x. (q == n.me) || is_join (suc n.epoch) x)) (know.heard q)
+pub votes_alike : (n : Node) (box : Kept) (b : Ballot) (q : ℕ) → IsInboxOf n box → IsNow n.epoch n.calls b.about
+    → first_read (λ t. only (λ x. (q == box.me) || b.is_vote x) (vote_in b.about t)) (texts_from box q) ≡ vote_of b n q
+votes_alike n box b q know now =
+    (λ i. first_read (λ t. only (λ x. (q == know.same i) || b.is_vote x) (vote_in b.about t)) (texts_from box q))
+    ∙ reads_alike n.epoch n.calls (λ t. only (λ x. (q == n.me) || b.is_vote x) (vote_in b.about t)) (texts_from box q) (n.texts q)
+    (λ t. no_vote n.epoch n.calls b.about (λ x. (q == n.me) || b.is_vote x) t now) (know.heard q)
 
 -- ---- estimates
 
-or_none : (b : Bool) → b ≡ b || false
-or_none true = refl
-or_none false = refl
+pub fits_alike : (n : Node) (d : Described) (w : Measure) (slots : List Slot) → w.seat ≡ seat_of d.members.now n.me → w.vote ≡ vote_of (ballot_of d) n n.me
+    → is_fit d w slots ≡ fits (ballot_of d) n slots
+fits_alike n d w slots seat vote = λ i.
+    (length slots == length d.members.now) && (list_all (may_stand (ballot_of d)) slots && are_same (slice_get slots (seat i)) (vote i))
 
-pub fits_alike : (n : Node) (w : Measure) (slots : List Slot) → n.epoch ≡ w.epoch.0 → w.members ≡ length n.present → w.seat ≡ seat_of n.present n.me
-    → w.vote ≡ vote_of (next_ballot n) n n.me → is_fit w slots ≡ fits (next_ballot n) n slots
-fits_alike n w slots at members seat vote = λ i.
-    (length slots == members i)
-    && (list_all (λ x. is_join (suc (sym at i)) x || or_none (is_lost x) i) slots && are_same (slice_get slots (seat i)) (vote i))
-
-pub estimates_alike : (n : Node) (box : Kept) (w : Measure) (own : Bool) (q r : ℕ) → IsInboxOf n box → n.epoch ≡ w.epoch.0 → w.members ≡ length n.present
-    → w.seat ≡ seat_of n.present n.me → w.vote ≡ vote_of (next_ballot n) n n.me → own ≡ (q == n.me) → r ≡ seat_of n.present q
-    → first_read (λ t. only (λ slots. own || is_fit w slots) (estimate_in (OfEpoch (suc w.epoch.0)) r t)) (texts_from box q) ≡ estimate_of (next_ballot n) n q
-estimates_alike n box w own q r know at members seat vote mine round =
-    (λ i. first_read (λ t. only (λ slots. mine i || fits_alike n w slots at members seat vote i) (estimate_in (OfEpoch (suc (sym at i))) (round i) t)) (texts_from box q))
-    ∙ reads_alike n.epoch n.calls (λ t. only (λ slots. (q == n.me) || fits (next_ballot n) n slots) (estimate_in (OfEpoch (suc n.epoch)) (seat_of n.present q) t)) (texts_from box q) (n.texts q)
-    (no_estimate n.epoch n.calls (seat_of n.present q) (λ slots. (q == n.me) || fits (next_ballot n) n slots)) (know.heard q)
+pub estimates_alike : (n : Node) (box : Kept) (d : Described) (w : Measure) (own : Bool) (q r : ℕ) → IsInboxOf n box → IsNow n.epoch n.calls (about_of d.about)
+    → w.seat ≡ seat_of d.members.now n.me → w.vote ≡ vote_of (ballot_of d) n n.me → own ≡ (q == n.me) → r ≡ seat_of d.members.now q
+    → first_read (λ t. only (λ slots. own || is_fit d w slots) (estimate_in (about_of d.about) r t)) (texts_from box q) ≡ estimate_of (ballot_of d) n q
+estimates_alike n box d w own q r know now seat vote mine round =
+    (λ i. first_read (λ t. only (λ slots. mine i || fits_alike n d w slots seat vote i) (estimate_in (about_of d.about) (round i) t)) (texts_from box q))
+    ∙ reads_alike n.epoch n.calls (λ t. only (λ slots. (q == n.me) || fits (ballot_of d) n slots) (estimate_in (about_of d.about) (seat_of d.members.now q) t)) (texts_from box q) (n.texts q)
+    (λ t. no_estimate n.epoch n.calls (about_of d.about) (seat_of d.members.now q) (λ slots. (q == n.me) || fits (ballot_of d) n slots) t now) (know.heard q)
 
 -- a text that is no estimate of this ballot tells none, of whatever round
-tells_none : (e r : ℕ) (t : Text) → is_estimate_in e t ≡ false → estimate_in (OfEpoch e) r t ≡ None
-tells_none e r (Join d x) other = refl
-tells_none e r (Jest d q slots) other = rw other refl
-tells_none e r (Part d k values) other = refl
-tells_none e r (Vote d k x) other = refl
-tells_none e r (Est d k q slots) other = refl
-tells_none e r (Share d k packed) other = refl
-tells_none e r (Tell d k known) other = refl
-tells_none e r (Help d k packed) other = refl
-tells_none e r (Give d k packed) other = refl
+tells_none : (about : About) (r : ℕ) (t : Text) → is_estimate_in about t ≡ false → estimate_in about r t ≡ None
+tells_none (OfEpoch e) r (Join d x) other = refl
+tells_none (OfEpoch e) r (Jest d q slots) other = rw other refl
+tells_none (OfEpoch e) r (Part d j values) other = refl
+tells_none (OfEpoch e) r (Vote d j x) other = refl
+tells_none (OfEpoch e) r (Est d j q slots) other = refl
+tells_none (OfEpoch e) r (Share d j packed) other = refl
+tells_none (OfEpoch e) r (Tell d j known) other = refl
+tells_none (OfEpoch e) r (Help d j packed) other = refl
+tells_none (OfEpoch e) r (Give d j packed) other = refl
+tells_none (OfCall e k) r (Join d x) other = refl
+tells_none (OfCall e k) r (Jest d q slots) other = refl
+tells_none (OfCall e k) r (Part d j values) other = refl
+tells_none (OfCall e k) r (Vote d j x) other = refl
+tells_none (OfCall e k) r (Est d j q slots) other = grind (arith, nat_tests)
+tells_none (OfCall e k) r (Share d j packed) other = refl
+tells_none (OfCall e k) r (Tell d j known) other = refl
+tells_none (OfCall e k) r (Help d j packed) other = refl
+tells_none (OfCall e k) r (Give d j packed) other = refl
 
-pub none_is_read : (e r : ℕ) (may : List Slot → Bool) (ts : List Text) → list_any (is_estimate_in e) ts ≡ false
-    → first_read (λ t. only may (estimate_in (OfEpoch e) r t)) ts ≡ None
-none_is_read e r may [] other = refl
-none_is_read e r may (t ∷ ts) other =
-    let parts = or_parts (is_estimate_in e t) (list_any (is_estimate_in e) ts) other in
-    rw (tells_none e r t parts.0) (none_is_read e r may ts parts.1)
+pub none_is_read : (about : About) (r : ℕ) (may : List Slot → Bool) (ts : List Text) → list_any (is_estimate_in about) ts ≡ false
+    → first_read (λ t. only may (estimate_in about r t)) ts ≡ None
+none_is_read about r may [] other = refl
+none_is_read about r may (t ∷ ts) other =
+    let parts = or_parts (is_estimate_in about t) (list_any (is_estimate_in about) ts) other in
+    rw (tells_none about r t parts.0) (none_is_read about r may ts parts.1)
 
 -- ---- what a reading of the rows gives
 
-pub vote_read : (n : Node) (box : Kept) (e q : ℕ) (own : Bool) (messages : List Message) (result : Option Slot) → IsInboxOf n box → n.epoch ≡ e
+pub vote_read : (n : Node) (box : Kept) (b : Ballot) (q : ℕ) (own : Bool) (messages : List Message) (result : Option Slot) → IsInboxOf n box → IsNow n.epoch n.calls b.about
     → own ≡ (q == box.me) → messages ≡ slice_index_or box.messages q []
-    → result ≡ first_read (λ t. only (λ x. own || is_join (suc e) x) (vote_in (OfEpoch (suc e)) t)) (map wire_text messages) → result ≡ vote_of (next_ballot n) n q
-vote_read n box e q own messages result know at mine row read =
+    → result ≡ first_read (λ t. only (λ x. own || b.is_vote x) (vote_in b.about t)) (map wire_text messages) → result ≡ vote_of b n q
+vote_read n box b q own messages result know now mine row read =
     read
-    ∙ (λ i. first_read (λ t. only (λ x. mine i || is_join (suc e) x) (vote_in (OfEpoch (suc e)) t)) (map wire_text (row i)))
-    ∙ votes_alike n box e q know at
+    ∙ (λ i. first_read (λ t. only (λ x. mine i || b.is_vote x) (vote_in b.about t)) (map wire_text (row i)))
+    ∙ votes_alike n box b q know now
 
-pub estimate_read : (n : Node) (box : Kept) (w : Measure) (own : Bool) (q r : ℕ) (messages : List Message) (result : Option (List Slot)) → IsInboxOf n box → n.epoch ≡ w.epoch.0
-    → w.members ≡ length n.present → w.seat ≡ seat_of n.present n.me → w.vote ≡ vote_of (next_ballot n) n n.me → own ≡ (q == n.me) → r ≡ seat_of n.present q
+pub estimate_read : (n : Node) (box : Kept) (d : Described) (w : Measure) (own : Bool) (q r : ℕ) (messages : List Message) (result : Option (List Slot)) → IsInboxOf n box
+    → IsNow n.epoch n.calls (about_of d.about) → w.seat ≡ seat_of d.members.now n.me → w.vote ≡ vote_of (ballot_of d) n n.me → own ≡ (q == n.me) → r ≡ seat_of d.members.now q
     → messages ≡ slice_index_or box.messages q []
-    → result ≡ first_read (λ t. only (λ slots. own || is_fit w slots) (estimate_in (OfEpoch (suc w.epoch.0)) r t)) (map wire_text messages) → result ≡ estimate_of (next_ballot n) n q
-estimate_read n box w own q r messages result know at members seat vote mine round row read =
+    → result ≡ first_read (λ t. only (λ slots. own || is_fit d w slots) (estimate_in (about_of d.about) r t)) (map wire_text messages) → result ≡ estimate_of (ballot_of d) n q
+estimate_read n box d w own q r messages result know now seat vote mine round row read =
     read
-    ∙ ap (λ (ms : List Message). first_read (λ t. only (λ slots. own || is_fit w slots) (estimate_in (OfEpoch (suc w.epoch.0)) r t)) (map wire_text ms)) row
-    ∙ estimates_alike n box w own q r know at members seat vote mine round
+    ∙ ap (λ (ms : List Message). first_read (λ t. only (λ slots. own || is_fit d w slots) (estimate_in (about_of d.about) r t)) (map wire_text ms)) row
+    ∙ estimates_alike n box d w own q r know now seat vote mine round
 
 pub part_read : (n : Node) (box : Kept) (e k due q : ℕ) (messages : List Message) (result : Option (List ℤ)) → IsInboxOf n box → n.epoch ≡ e → n.calls ≡ k
     → messages ≡ slice_index_or box.messages q []

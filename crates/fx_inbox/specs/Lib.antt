@@ -1,3 +1,4 @@
+pub mod Ballots
 pub mod Keeping
 pub mod Measures
 pub mod Turns

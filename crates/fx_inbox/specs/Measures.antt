@@ -1,20 +1,19 @@
--- What an estimate of another is measured by, in the ballot of the next epoch.
-use Rattle.std.specs.Prelude.{ℕ, suc, Bool, false, ◌&&◌, ◌||◌, ◌==◌, List, length, slice_get}
+-- What an estimate of another is measured by.
+use Rattle.std.specs.Prelude.{Bool, false, ◌&&◌, ◌==◌, List, length, slice_get}
 use Rattle.std.specs.List.{list_all}
+use Rattle.fx_inbox.specs.Ballots.{ballot_of}
+use Rattle.fx_inbox.specs.declared.ballot.Ballot.{Ballot}
 use Rattle.fx_inbox.specs.declared.estimate.Measure.{Measure}
 use Rattle.fx_link.specs.declared.slot.Slot.{Slot}
-use Rattle.fx_machine.specs.Reading.{are_same, is_join, is_lost}
-use Rattle.fx_machine.specs.Texts.{Text, Jest}
-
--- what may stand in an estimate of the ballot behind this epoch: a vote, or lost
-abbrev pub may_be_in : ℕ → Slot → Bool
-may_be_in epoch x = is_join (suc epoch) x || is_lost x
+use Rattle.fx_machine.specs.Reading.{About, OfCall, OfEpoch, are_same, may_stand}
+use Rattle.fx_machine.specs.Texts.{Text, Est, Jest}
 
 -- it has a slot for each member that may stand there, and for oneself the vote that one cast
-abbrev pub is_fit : Measure → List Slot → Bool
-is_fit w slots = (length slots == w.members) && (list_all (may_be_in w.epoch.0) slots && are_same (slice_get slots w.seat) w.vote)
+abbrev pub is_fit : Ballot → Measure → List Slot → Bool
+is_fit d w slots = (length slots == length d.members.now) && (list_all (may_stand (ballot_of d)) slots && are_same (slice_get slots w.seat) w.vote)
 
--- an estimate in the ballot of this epoch, of whatever round
-abbrev pub is_estimate_in : ℕ → Text → Bool
-is_estimate_in e (Jest d round slots) = d == e
-is_estimate_in e other = false
+-- an estimate in this ballot, of whatever round
+abbrev pub is_estimate_in : About → Text → Bool
+is_estimate_in (OfEpoch e) (Jest d round slots) = d == e
+is_estimate_in (OfCall e k) (Est d j round slots) = (d == e) && (j == k)
+is_estimate_in about other = false

@@ -1,4 +1,4 @@
--- A turn in the ballot of the next epoch, as it is carried out.
+-- A turn in a ballot, as it is carried out.
 use Rattle.std.specs.Prelude.{◌≡◌}
 use Rattle.fx_ballot.specs.declared.poll.Poll.{Poll}
 use Rattle.fx_ballot.specs.declared.poll.Poll.TheVariants as poll

@@ -1,17 +1,18 @@
-ghost use Rattle.std.specs.Prelude.{◌≡◌, ◌≢◌, ◌<◌, ◌≤◌, ℕ, List, Bool, true, false, All, IfOk, OnOk, OnErr, length};
+ghost use Rattle.std.specs.Prelude.{◌≡◌, ◌≢◌, ◌<◌, ◌≤◌, ◌&&◌, ◌||◌, ℕ, List, Bool, true, false, All, IfOk, OnOk, OnErr, length};
 ghost use Rattle.std.specs.Option.{option_copied};
 ghost use Rattle.fx_ballot.specs.Names.{seat_of};
 ghost use Rattle.fx_ballot.specs.Turn.{Round, slot_of, speak};
+ghost use Rattle.fx_inbox.specs.Ballots.{TakesPart, about_of, ballot_of};
 ghost use Rattle.fx_inbox.specs.Keeping.{IsInboxOf, Knows, goes_on, part_from, senders};
 ghost use Rattle.fx_inbox.specs.declared.phase.Phase.TheVariants as Phase;
 ghost use Rattle.fx_inbox.specs.Turns.{IsTurn, Stays, phase_of};
 ghost use Rattle.fx_machine.specs.Messages.{wire_text};
 ghost use Rattle.fx_machine.specs.Nodes.{Node, first_node, is_told, keeping, receives};
-ghost use Rattle.fx_machine.specs.Reading.{estimate_of, next_ballot, turn_in, vote_of};
+ghost use Rattle.fx_machine.specs.Reading.{estimate_of, has_left, is_of_call, next_ballot, turn_in, vote_of};
 ghost use Rattle.fx_machine.specs.Setup.{Setup};
 ghost use Rattle.fx_machine.specs.Texts.{Text};
 
-use crate::ballot::seat_of;
+use crate::ballot::{About, Ballot, has, seat_of};
 use crate::estimate::{Measure, first_estimate, has_estimate};
 use crate::part::first_part;
 use crate::phase::Phase;
@@ -125,7 +126,7 @@ impl Inbox {
     {
         first_vote(
             self.rows[usize::from(who)].as_slice(),
-            epoch,
+            About::Epoch(epoch),
             who == self.me.0,
         )
     }
@@ -140,42 +141,42 @@ impl Inbox {
         }
     }
 
-    /// Takes the one turn that is enabled in the ballot of the epoch behind this one, whose members are these in rising
-    /// order, each one of the processes, and says what it did. Fails only without memory.
-    pub fn turn(&self, epoch: Epoch, members: &[u8], phase: &mut Phase) -> Result<Poll, NoMemory>
-        requires few { length members.now ≤ 32 }
-        requires known { All (λ q. q < senders self.now) members.now }
-        ensures takes { IfOk result (λ said. (n : Node) → IsInboxOf n self.now → n.epoch ≡ epoch.0 → n.present ≡ members.now
-            → IsTurn (turn_in (next_ballot n) n (phase_of phase.old)) said phase.new) }
+    /// Takes the one turn that is enabled in a ballot of at most 32 members, each one of the processes, and says what it did.
+    /// In the ballot of a call, who joined the epoch behind this one has left. Fails only without memory.
+    pub fn turn(&self, ballot: &Ballot, phase: &mut Phase) -> Result<Poll, NoMemory>
+        requires few { length ballot.now.members.now ≤ 32 }
+        requires known { All (λ q. q < senders self.now) ballot.now.members.now }
+        ensures takes { IfOk result (λ said. (n : Node) → IsInboxOf n self.now → TakesPart ballot.now n
+            → IsTurn (turn_in (ballot_of ballot.now) n (phase_of phase.old)) said phase.new) }
         ensures stays { IfOk result (λ said. Stays said phase.old phase.new) }
     {
         match phase {
-            Phase::Voting => self.form(epoch, members, phase),
+            Phase::Voting => self.form(ballot, phase),
             Phase::Round(round, held) => {
-                let seat = seat_of(members, self.me.0);
-                if usize::from(*round) >= members.len() {
+                let seat = seat_of(ballot.members, self.me.0);
+                if usize::from(*round) >= ballot.members.len() {
                     Ok(Poll::Decided(held.copy()?))
                 } else if *round == seat {
                     speak(round, held)
                 } else {
-                    self.follow(epoch, members, seat, round, held)
+                    self.follow(ballot, seat, round, held)
                 }
             }
         }
     }
 
     // With the slots of all members known they are its estimate, and round 0 is next.
-    fn form(&self, epoch: Epoch, members: &[u8], phase: &mut Phase) -> Result<Poll, NoMemory>
-        requires few { length members.now ≤ 32 }
-        requires known { All (λ q. q < senders self.now) members.now }
+    fn form(&self, ballot: &Ballot, phase: &mut Phase) -> Result<Poll, NoMemory>
+        requires few { length ballot.now.members.now ≤ 32 }
+        requires known { All (λ q. q < senders self.now) ballot.now.members.now }
         requires voting { phase.old ≡ Phase.Voting }
         ensures stays { IfOk result (λ said. Stays said phase.old phase.new) }
-        ensures takes { IfOk result (λ said. (n : Node) → IsInboxOf n self.now → n.epoch ≡ epoch.0 → n.present ≡ members.now
-            → IsTurn (turn_in (next_ballot n) n (phase_of phase.old)) said phase.new) }
+        ensures takes { IfOk result (λ said. (n : Node) → IsInboxOf n self.now → TakesPart ballot.now n
+            → IsTurn (turn_in (ballot_of ballot.now) n (phase_of phase.old)) said phase.new) }
     {
         let mut slots = Slots::new(*self.rows.allocator());
-        for member in members {
-            match self.slot_of(epoch, *member) {
+        for member in ballot.members {
+            match self.slot_of(ballot, *member) {
                 Some(slot) => slots.push(slot)?,
                 None => return Ok(Poll::NotYet),
             }
@@ -184,66 +185,102 @@ impl Inbox {
         Ok(Poll::Moved)
     }
 
-    // The slot of a member: its vote, else `Lost` where it was told of that; `None` where neither is known.
-    fn slot_of(&self, epoch: Epoch, who: u8) -> Option<Slot>
+    // The slot of a member: its vote, else `Lost` where it was told of that, else `Left` where it left; `None` where none of
+    // these is known.
+    fn slot_of(&self, ballot: &Ballot, who: u8) -> Option<Slot>
         requires { who < senders self.now }
-        ensures { (n : Node) → IsInboxOf n self.now → n.epoch ≡ epoch.0 → result ≡ slot_of (vote_of (next_ballot n) n who) (n.lost who) false }
+        ensures { (n : Node) → IsInboxOf n self.now → TakesPart ballot.now n
+            → result ≡ slot_of (vote_of (ballot_of ballot.now) n who) (n.lost who) (is_of_call (about_of ballot.now.about) && has_left n who) }
     {
-        match self.vote_of(epoch, who) {
+        match self.vote_in(ballot, who) {
             Some(slot) => Some(slot),
             None if self.lost.has(who) => Some(Slot::Lost),
+            None if self.has_left(ballot, who) => Some(Slot::Left),
             None => None,
         }
     }
 
+    // What a process votes in a ballot, if that was heard. One's own vote counts as it is; another's counts where it may be a
+    // vote there.
+    fn vote_in(&self, ballot: &Ballot, who: u8) -> Option<Slot>
+        requires { who < senders self.now }
+        ensures { (n : Node) → IsInboxOf n self.now → TakesPart ballot.now n → result ≡ vote_of (ballot_of ballot.now) n who }
+    {
+        first_vote(
+            self.rows[usize::from(who)].as_slice(),
+            ballot.about,
+            who == self.me.0,
+        )
+    }
+
+    // Whether a process has left a call: it is present and joined the epoch behind this one.
+    fn has_left(&self, ballot: &Ballot, who: u8) -> bool
+        requires { who < senders self.now }
+        ensures { (n : Node) → IsInboxOf n self.now → TakesPart ballot.now n → result ≡ is_of_call (about_of ballot.now.about) && has_left n who }
+    {
+        match ballot.about {
+            About::Epoch(_) => false,
+            About::Call(epoch, _, _) => {
+                has(ballot.present, who) && self.vote_of(epoch, who).is_some()
+            }
+        }
+    }
+
     // In another's round it adopts that member's estimate where one that fits was heard; else it
-    // passes the round where that member is lost. `seat` is its own.
+    // passes the round where that member is lost or left. `seat` is its own.
     fn follow(
         &self,
-        epoch: Epoch,
-        members: &[u8],
+        ballot: &Ballot,
         seat: u8,
         round: &mut u8,
         held: &mut Slots,
     ) -> Result<Poll, NoMemory>
-        requires few { length members.now ≤ 32 }
-        requires known { All (λ q. q < senders self.now) members.now }
-        requires below { round.old < length members.now }
-        requires own { seat ≡ seat_of members.now self.now.me }
+        requires few { length ballot.now.members.now ≤ 32 }
+        requires known { All (λ q. q < senders self.now) ballot.now.members.now }
+        requires below { round.old < length ballot.now.members.now }
+        requires own { seat ≡ seat_of ballot.now.members.now self.now.me }
         requires of_another { round.old ≢ seat }
         ensures stays { IfOk result (λ said. Stays said (Phase.Round round.old held.old) (Phase.Round round.new held.new)) }
-        ensures takes { IfOk result (λ said. (n : Node) → IsInboxOf n self.now → n.epoch ≡ epoch.0 → n.present ≡ members.now
-            → IsTurn (turn_in (next_ballot n) n (Round round.old held.old)) said (Phase.Round round.new held.new)) }
+        ensures takes { IfOk result (λ said. (n : Node) → IsInboxOf n self.now → TakesPart ballot.now n
+            → IsTurn (turn_in (ballot_of ballot.now) n (Round round.old held.old)) said (Phase.Round round.new held.new)) }
     {
-        let who = members[usize::from(*round)];
-        match self.estimate_of(epoch, members, seat, who) {
+        let who = ballot.members[usize::from(*round)];
+        match self.estimate_of(ballot, seat, who) {
             Some(slots) => *held = slots.copy()?,
-            None if self.lost.has(who) => {}
+            None if self.is_away(ballot, who) => {}
             None => return Ok(Poll::NotYet),
         }
         *round += 1;
         Ok(Poll::Moved)
     }
 
+    // Whether nothing more comes of a process: it is lost, or left.
+    fn is_away(&self, ballot: &Ballot, who: u8) -> bool
+        requires { who < senders self.now }
+        ensures { (n : Node) → IsInboxOf n self.now → TakesPart ballot.now n
+            → result ≡ n.lost who || (is_of_call (about_of ballot.now.about) && has_left n who) }
+    {
+        self.lost.has(who) || self.has_left(ballot, who)
+    }
+
     // The estimate of a member that was heard, of the round of its seat. One's own counts as it is,
     // another's where it fits. `seat` is its own.
-    fn estimate_of(&self, epoch: Epoch, members: &[u8], seat: u8, who: u8) -> Option<&Slots>
-        requires few { length members.now ≤ 32 }
-        requires own { seat ≡ seat_of members.now self.now.me }
+    fn estimate_of(&self, ballot: &Ballot, seat: u8, who: u8) -> Option<&Slots>
+        requires few { length ballot.now.members.now ≤ 32 }
+        requires own { seat ≡ seat_of ballot.now.members.now self.now.me }
         requires known { who < senders self.now }
-        ensures { (n : Node) → IsInboxOf n self.now → n.epoch ≡ epoch.0 → n.present ≡ members.now → option_copied result ≡ estimate_of (next_ballot n) n who }
+        ensures { (n : Node) → IsInboxOf n self.now → TakesPart ballot.now n → option_copied result ≡ estimate_of (ballot_of ballot.now) n who }
     {
         let messages = self.rows[usize::from(who)].as_slice();
-        if !has_estimate(messages, epoch) {
+        if !has_estimate(messages, ballot.about) {
             return None;
         }
         let measure = Measure {
-            epoch,
-            members: members.len(),
             seat,
-            vote: self.vote_of(epoch, self.me.0),
+            vote: self.vote_in(ballot, self.me.0),
         };
-        first_estimate(messages, seat_of(members, who), who == self.me.0, &measure)
+        let round = seat_of(ballot.members, who);
+        first_estimate(messages, round, who == self.me.0, ballot, &measure)
     }
 }
 

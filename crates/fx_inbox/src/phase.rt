@@ -1,6 +1,6 @@
 use fx_link::Slots;
 
-/// Where a member stands that has entered the ballot of an epoch and hasn't decided.
+/// Where a member stands that has entered a ballot and hasn't decided.
 #[derive(Debug, Drop)]
 pub enum Phase {
     /// It gathers votes.

@@ -41,11 +41,29 @@ fn estimate(e: u32, r: u8, slots: Slots) -> Message {
     Message::Jest { e, r, slots }
 }
 
+fn flag(k: u32, n: i64) -> Message {
+    let (e, k, slot) = (Epoch(2), CallNo(k), Slot::Flag(n));
+    Message::Vote { e, k, slot }
+}
+
+/// Whether the turn of the second of three in call 4 of epoch 2 is this one.
+fn takes_in_call(inbox: &Inbox, phase: &mut Phase, wanted: Poll) -> Result<bool, NoMemory>
+    requires { senders inbox.now ≡ 3 }
+{
+    let ballot = Ballot {
+        about: About::Call(Epoch(2), CallNo(4), Votes::Flags),
+        members: &[0, 1, 2],
+        present: &[0, 1, 2],
+    };
+    Ok(inbox.turn(&ballot, phase)? == wanted)
+}
+
 /// Whether the turn of the second of three is this one.
 fn takes(inbox: &Inbox, phase: &mut Phase, wanted: Poll) -> Result<bool, NoMemory>
     requires { senders inbox.now ≡ 3 }
 {
-    Ok(inbox.turn(Epoch(2), &[0, 1, 2], phase)? == wanted)
+    let ballot = Ballot::of_next(Epoch(2), &[0, 1, 2]);
+    Ok(inbox.turn(&ballot, phase)? == wanted)
 }
 
 #[test]
@@ -84,6 +102,36 @@ fn the_second_adopts_speaks_and_decides(rt: HostRuntime) -> Result<(), Fail> {
     assert!(rt; takes(&inbox, &mut phase, Poll::Moved)?);
     let all = slots(&rt, Slot::Error, Slot::Error)?;
     assert!(rt; takes(&inbox, &mut phase, Poll::Decided(all))?);
+    Ok(())
+}
+
+#[test]
+fn in_a_call_who_joined_has_left(rt: HostRuntime) -> Result<(), Fail> {
+    let mut inbox = Inbox::new(rt.alloc(), 3, Proc(1))?;
+    inbox.say(flag(4, 5))?;
+    inbox.lose(Proc(2));
+    let mut phase = Phase::Voting;
+    let (e, k) = (Epoch(2), CallNo(4));
+    hear(&mut inbox, flag(3, 6))?;
+    hear(&mut inbox, join(2, Slot::Error))?;
+    let slot = Slot::Yes;
+    hear(&mut inbox, Message::Vote { e, k, slot })?;
+    assert!(rt; takes_in_call(&inbox, &mut phase, Poll::NotYet)?);
+    hear(&mut inbox, join(3, Slot::Error))?;
+    assert!(rt; takes_in_call(&inbox, &mut phase, Poll::Moved)?);
+    let mut wanted = Slots::new(rt.alloc());
+    wanted.push(Slot::Left)?;
+    wanted.push(Slot::Flag(5))?;
+    wanted.push(Slot::Lost)?;
+    assert!(rt; matches!(&phase, Phase::Round(0, held) if *held == wanted));
+    let mut slots = Slots::new(rt.alloc());
+    slots.push(Slot::Flag(6))?;
+    slots.push(Slot::Flag(5))?;
+    slots.push(Slot::Left)?;
+    let r = 0;
+    hear(&mut inbox, Message::Est { e, k, r, slots })?;
+    assert!(rt; takes_in_call(&inbox, &mut phase, Poll::Moved)?);
+    assert!(rt; matches!(&phase, Phase::Round(1, held) if held.nth(0) == Some(&Slot::Flag(6))));
     Ok(())
 }
 

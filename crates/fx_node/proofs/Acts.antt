@@ -30,8 +30,8 @@ use Rattle.fx_walk.specs.declared.action.At.TheVariants as at
 use Rattle.fx_walk.specs.declared.action.View.{View}
 
 -- where it stands, by its stage
-pub stands_at : (job : Job) (c : Standing) (n : Node) (s : _) → c.stage ≡ s → IsNodeOf job c n → StandsAs s c n
-stands_at job c n s is h = subst (λ s. StandsAs s c n) is h.stands
+pub stands_at : (job : Job) (c : Standing) (n : Node) (s : _) → c.stage ≡ s → IsNodeOf job c n → StandsAs job s c n
+stands_at job c n s is h = subst (λ s. StandsAs job s c n) is h.stands
 
 -- ---- votes
 

@@ -33,6 +33,8 @@ use Rattle.fx_node.specs.Standing.{IsNodeOf, IsStill, Standing, StandsAs}
 use Rattle.fx_node.specs.Asking.{AsksCarried}
 use Rattle.fx_node.specs.Stepping.{Steps, called_items}
 use Rattle.fx_script.specs.declared.job.Job.{Job}
+use Rattle.fx_value.specs.Shape.{IsShaped}
+use Rattle.fx_value.proofs.Staying.{stays_shaped}
 use Rattle.fx_walk.specs.Callbacks.{body_start, callback_run, callbacks_at_init, state_behind_callbacks, view_at_init}
 use Rattle.fx_walk.specs.InStep.{job_walk}
 use Rattle.fx_walk.specs.State.{State, at_init}
@@ -108,16 +110,18 @@ pub record Beginning (job : Job) (c : Standing) (place : ℕ) (id : Ident) (view
   pub ident : option_map (λ seat. seat.0) (slice_get c.comm place) ≡ Some id
   pub sees : view ≡ view_at_init c.role place (length c.comm)
   pub of_job : IsFlowOf job flow
+  pub keeps : state_of flow ≡ body_start (facts_of job) c.role place (length c.comm) (state_of c.flow)
   pub does : (view : View) → DoesRest view (job_walk job view (body_start (facts_of job) c.role place (length c.comm) (state_of c.flow))) flow
 
 node_begins : (job : Job) (c : Standing) (n : Node) (place : ℕ) (id : Ident) (view : View) (flow : Flowing) → AsksCarried job → IsNodeOf job c n → c.stage ≡ stage.Arrived
     → Beginning job c place id view flow → IsNodeOf job (in_body c view flow) (begun (job_setup job) n)
 node_begins job c n place id view flow asks h at b =
-    let arrived = subst (λ s. StandsAs s c n) at h.stands in
+    let arrived = subst (λ s. StandsAs job s c n) at h.stands in
     let at_place = my_place_is n c.comm c.me place h.comm h.me b.there in
     let state = starts job n.role c.role (my_place n) place (size n) (length c.comm) (node.state_of n) (state_of c.flow) h.role at_place (ap length h.comm) (still_state c n arrived.1) in
     let sees = b.sees ∙ sym (views n.role c.role (my_place n) place (size n) (length c.comm) h.role at_place (ap length h.comm)) in
     let does = subst (λ s. DoesRest view (job_walk job view s) flow) (sym state) (b.does view) in
+    let shaped : IsShaped job.names (body_start (facts_of job) n.role (my_place n) (size n) (node.state_of n)) = subst (λ (s : State). IsShaped job.names s) (b.keeps ∙ sym state) b.of_job.shaped in
     record {
       me = h.me;
       ranks = h.ranks;
@@ -136,6 +140,7 @@ node_begins job c n place id view flow asks h at b =
           sees = sees;
           does = subst (λ v. DoesRest view (job_walk job v (body_start (facts_of job) n.role (my_place n) (size n) (node.state_of n))) flow) sees does;
           carried = asks (view_at_init n.role (my_place n) (size n)) (body_start (facts_of job) n.role (my_place n) (size n) (node.state_of n));
+          shaped = stays_shaped (facts_of job) job.body b.of_job.accepted.body (body_start (facts_of job) n.role (my_place n) (size n) (node.state_of n)) shaped (view_at_init n.role (my_place n) (size n));
           placed = rw (h.comm, h.me) (has_place_in c.comm c.me ∙ ap is_some b.there);
           left = work_of job.body;
           within = is_within_its_work (facts_of job) job.body (view_at_init n.role (my_place n) (size n)) (body_start (facts_of job) n.role (my_place n) (size n) (node.state_of n));
@@ -151,7 +156,7 @@ begins : (job : Job) (c : Standing) (n : Node) (place : ℕ) (id : Ident) (view 
     → written ≡ before ++ flat_map (called_items c.me c.epoch) (callbacks_at_init (facts_of job) c.role place (length c.comm) (state_of c.flow))
     → Steps job n (Some (inits (job_setup job) n)) moved.Acted (in_body c view flow) sends sends before (written ++ returned c id place ∷ [])
 begins job c n place id view flow sends before written asks h at b wrote =
-    let arrived = subst (λ s. StandsAs s c n) at h.stands in
+    let arrived = subst (λ s. StandsAs job s c n) at h.stands in
     let at_place = my_place_is n c.comm c.me place h.comm h.me b.there in
     let called = calls job n.me c.me n.epoch c.epoch n.role c.role (my_place n) place (size n) (length c.comm) (node.state_of n) (state_of c.flow)
     h.me h.epoch h.role at_place (ap length h.comm) (still_state c n arrived.1) in
@@ -183,10 +188,11 @@ pub begins_from : (job : Job) (c s : Standing) (n : Node) (place size count : �
     → record c { view = view_at_init c.role place size; flow = flow } ≡ s → Found s place id count warn
     → (IsFlowOf job c.flow → IsFlowOf job flow)
     → (IsFlowOf job c.flow → (view : View) → DoesRest view (job_walk job view (body_start (facts_of job) c.role place size (state_of c.flow))) flow)
+    → (IsFlowOf job c.flow → state_of flow ≡ body_start (facts_of job) c.role place size (state_of c.flow))
     → (IsFlowOf job c.flow → written ≡ before ++ flat_map (called_items c.me c.epoch) (callbacks_at_init (facts_of job) c.role place size (state_of c.flow)))
     → new ≡ written ++ item.Init (proc s.me) (epoch_no s.epoch) s.role id place count warn ∷ []
     → Steps job n (Some (inits (job_setup job) n)) moved.Acted (record s { stage = stage.Walking }) sends sends before new
-begins_from job c s n place size count id warn flow sends before written new asks h at there sized same found of_job does wrote pushed =
+begins_from job c s n place size count id warn flow sends before written new asks h at there sized same found of_job does keeps wrote pushed =
     let flow_of = h.is_flow in
     let kept : (s.comm ≡ c.comm) × (s.ranks ≡ c.ranks) = (sym (ap (λ (x : Standing). x.comm) same), sym (ap (λ (x : Standing). x.ranks) same)) in
     let ident = subst (λ (seats : List Seat). option_map (λ seat. seat.0) (slice_get seats place) ≡ Some id) kept.0 found.ident in
@@ -199,6 +205,7 @@ begins_from job c s n place size count id warn flow sends before written new ask
       ident = ident;
       sees = ap (λ (k : ℕ). view_at_init c.role place k) sized;
       of_job = of_job flow_of;
+      keeps = subst (λ (k : ℕ). state_of flow ≡ body_start (facts_of job) c.role place k (state_of c.flow)) sized (keeps flow_of);
       does = λ view. subst (λ (k : ℕ). DoesRest view (job_walk job view (body_start (facts_of job) c.role place k (state_of c.flow))) flow) sized (does flow_of view);
     } in
     let wrote' = subst (λ (k : ℕ). written ≡ before ++ flat_map (called_items c.me c.epoch) (callbacks_at_init (facts_of job) c.role place k (state_of c.flow))) sized (wrote flow_of) in
@@ -213,7 +220,7 @@ pub others_call_nothing : (job : Job) (r r' : Role) (place count : ℕ) (before 
 others_call_nothing job r r' place count before same (inl e) = rw (same, e) refl
 others_call_nothing job r r' place count before same (inr e) = rw (same, e) refl
 
-others_start : (job : Job) (r r' : Role) (place count : ℕ) (before : State) → r' ≡ r → (r ≡ role.Initial) ⊎ (r ≡ role.Recovered)
+pub others_start : (job : Job) (r r' : Role) (place count : ℕ) (before : State) → r' ≡ r → (r ≡ role.Initial) ⊎ (r ≡ role.Recovered)
     → at_init (facts_of job) r before ≡ body_start (facts_of job) r' place count before
 others_start job r r' place count before same (inl e) = rw (same, e) refl
 others_start job r r' place count before same (inr e) = rw (same, e) refl
@@ -224,13 +231,17 @@ pub others_begin : (job : Job) (r r' : Role) (place count : ℕ) (old old' new :
 others_begin job r r' place count old old' new view same from other does =
     subst (λ (s : State). DoesRest view (job_walk job view s) new) (others_start job r r' place count (state_of old) same other ∙ ap (λ (f : Flowing). body_start (facts_of job) r' place count (state_of f)) (sym from)) does
 
+pub survivor_starts : (job : Job) (r r' : Role) (place count : ℕ) (sees : View) (old old' back : Flowing) → r' ≡ r → old' ≡ old → r ≡ role.Survivor
+    → sees ≡ view_at_init r' place count → state_of back ≡ at_init (facts_of job) r (state_of old)
+    → state_behind_callbacks (facts_of job) sees (state_of back) ≡ body_start (facts_of job) r' place count (state_of old')
+survivor_starts job r r' place count sees old old' back same from is seen kept = rw (seen, kept, from, same, is) refl
+
 pub survivor_begins : (job : Job) (r r' : Role) (place count : ℕ) (sees : View) (old old' back new : Flowing) (view : View) → r' ≡ r → old' ≡ old → r ≡ role.Survivor
     → sees ≡ view_at_init r' place count → state_of back ≡ at_init (facts_of job) r (state_of old)
     → DoesRest view (job_walk job view (state_behind_callbacks (facts_of job) sees (state_of back))) new
     → DoesRest view (job_walk job view (body_start (facts_of job) r' place count (state_of old'))) new
 survivor_begins job r r' place count sees old old' back new view same from is seen kept does =
-    let starts : state_behind_callbacks (facts_of job) sees (state_of back) ≡ body_start (facts_of job) r' place count (state_of old') = rw (seen, kept, from, same, is) refl in
-    subst (λ (s : State). DoesRest view (job_walk job view s) new) starts does
+    subst (λ (s : State). DoesRest view (job_walk job view s) new) (survivor_starts job r r' place count sees old old' back same from is seen kept) does
 
 pub survivor_calls : (job : Job) (r r' : Role) (place count : ℕ) (sees : View) (old old' back : Flowing) → r' ≡ r → old' ≡ old → r ≡ role.Survivor
     → sees ≡ view_at_init r' place count → state_of back ≡ at_init (facts_of job) r (state_of old)

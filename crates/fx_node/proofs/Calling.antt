@@ -2,9 +2,9 @@
 use Rattle.std.proofs.lemmas.List.{append-nil}
 use Rattle.std.proofs.Math.ListN.{drop_of_length-le}
 use Rattle.std.proofs.Common.{append_assoc, subst, arith, ◌≡◌, ◌++◌, ◌∷◌, ◌==◌, ◌<◌, ◌≤◌, ◌+◌, [], ℕ, ℤ, zero, suc, Bool, true, false, negsuc, List, Option, Some, None, map, length, drop, slice_index_or, refl, ap, sym, ◌∙◌, All}
-use Rattle.std.specs.Prelude.{if◌then◌else◌, nat_lt, nat_le, slice_get, option_map, is_some}
+use Rattle.std.specs.Prelude.{if◌then◌else◌, not, nat_lt, nat_le, slice_get, option_map, is_some}
 use Rattle.std.specs.List.{flat_map, enumerate_from}
-use Rattle.std.proofs.lemmas.Bool.{true≢false, eq-eqb, ne_eqb, or_right, and_from, le-leb}
+use Rattle.std.proofs.lemmas.Bool.{true≢false, eq-eqb, eqb-true, ne_eqb, or_right, and_from, le-leb}
 use Rattle.std.proofs.lemmas.List.Elements.{All-append, All-cons, All-head, All-nil, All-tail}
 use Rattle.fx_base.specs.declared.names.CallNo.{CallNo}
 use Rattle.fx_base.specs.declared.names.Epoch.{Epoch}
@@ -20,16 +20,17 @@ use Rattle.fx_comm.specs.Seats.{Seat, has_place, place_in}
 use Rattle.fx_comm.proofs.Places.{has_place_in}
 use Rattle.fx_comm.proofs.Steps.{seats_at}
 use Rattle.fx_fleet.specs.Runs.{job_setup}
-use Rattle.fx_flow.specs.Flowing.{AsksFor, DoesRest, Flowing, IsFlowOf, WasAnswered, state_of}
+use Rattle.fx_flow.specs.Flowing.{AsksFor, DoesRest, Flowing, IsFlowOf, IsGivenFitting, WasAnswered, state_of}
+use Rattle.fx_value.specs.Shape.{Fits, StaysShaped}
 use Rattle.fx_inbox.specs.Keeping as kept
 use Rattle.fx_inbox.specs.Keeping.{IsInboxOf, Kept, Knows}
 use Rattle.fx_item.specs.declared.item.Item.{Item}
 use Rattle.fx_item.specs.declared.item.Item.TheVariants as item
 use Rattle.fx_link.specs.declared.message.Message.{Message}
 use Rattle.fx_link.specs.declared.message.Message.TheVariants as message
-use Rattle.fx_machine.specs.Asking.{entered, enters, part}
+use Rattle.fx_machine.specs.Asking.{entered, enters, enters_shift, part}
 use Rattle.fx_machine.specs.Calls.{in_asked_call, in_call}
-use Rattle.fx_machine.specs.Gathering.{in_gathering, passes, returns_number}
+use Rattle.fx_machine.specs.Gathering.{in_gathering, passes, returns_elements, returns_number, target_of}
 use Rattle.fx_machine.specs.Groups.{Group, newest_stamp}
 use Rattle.fx_machine.specs.Messages.{message_of}
 use Rattle.fx_machine.specs.Nodes as node
@@ -38,19 +39,20 @@ use Rattle.fx_machine.specs.Numbers.{call_no, epoch_no, of_each_below, proc}
 use Rattle.fx_machine.specs.Steps.{next}
 use Rattle.fx_machine.specs.Texts.{Text}
 use Rattle.fx_machine.specs.Waits.{ByLeaving, ByLoss, returns_error}
-use Rattle.fx_node.specs.Asking.{OnlyCarried, is_carried, to_seats}
+use Rattle.fx_node.specs.Asking.{OnlyCarried, is_carried, share_of, to_seats}
 use Rattle.fx_node.specs.declared.node.Moved.{Moved}
 use Rattle.fx_node.specs.declared.node.Moved.TheVariants as moved
 use Rattle.fx_node.specs.declared.stage.Stage.TheVariants as stage
 use Rattle.fx_node.specs.Standing.{ComesTo, IsNodeOf, Standing, StandsAs, WalksAlong}
 use Rattle.fx_node.specs.Stepping.{Steps, Takes, posted}
 use Rattle.fx_node.proofs.Acts.{by_stage}
+use Rattle.fx_node.proofs.Begun.{my_place_is}
 use Rattle.fx_script.specs.declared.job.Job.{Job}
 use Rattle.fx_walk.specs.Along.{at_of, stop_of}
 use Rattle.fx_walk.specs.Callbacks.{no_latest, state_at, view_at_init}
 use Rattle.fx_walk.specs.Lengths.{IsWithin}
 use Rattle.fx_walk.specs.State.{State}
-use Rattle.fx_walk.specs.Walk.{Asks, Ends, Given, Nothing, Number, Passes, Prints, Reply, TextPlace, Walk, view_after}
+use Rattle.fx_walk.specs.Walk.{Asks, Elements, Ends, Given, Nothing, Number, Passes, Prints, Reply, TextPlace, Walk, view_after}
 use Rattle.fx_walk.specs.declared.action.At.{At}
 use Rattle.fx_walk.specs.declared.action.At.TheVariants as at
 use Rattle.fx_walk.specs.declared.action.View.{View}
@@ -59,66 +61,78 @@ use Rattle.fx_walk.specs.declared.wanted.Wanted.TheVariants as wanted
 
 -- ---- what is sent
 
-pub seat_sent : (me : ℕ) (m : Message) (seats : List Seat) (k : ℕ) (d : Seat) (sent before : List (Proc × Message)) → k < length seats → ((slice_index_or seats k d).1.0 ≡ me → ⊥)
-    → sent ++ to_seats me m (drop k seats) ≡ before → (sent ++ ((slice_index_or seats k d).1, m) ∷ []) ++ to_seats me m (drop (k + 1) seats) ≡ before
-seat_sent me m seats k d sent before within other so =
+pub seat_sent : (me : ℕ) (meant : ℕ → Message) (seats : List Seat) (k : ℕ) (d : Seat) (m : Message) (sent before : List (Proc × Message)) → k < length seats → ((slice_index_or seats k d).1.0 ≡ me → ⊥) → m ≡ meant k
+    → sent ++ to_seats me meant k (drop k seats) ≡ before → (sent ++ ((slice_index_or seats k d).1, m) ∷ []) ++ to_seats me meant (k + 1) (drop (k + 1) seats) ≡ before
+seat_sent me meant seats k d m sent before within other is so =
     let x : Seat = slice_index_or seats k d in
     let no : (x.1.0 == me) ≡ false = ne_eqb x.1.0 me other in
-    append_assoc sent ((x.1, m) ∷ []) (to_seats me m (drop (k + 1) seats))
-    ∙ ap (λ (b : Bool). sent ++ ((if b then [] else (x.1, m) ∷ []) ++ to_seats me m (drop (k + 1) seats))) (sym no)
-    ∙ ap (λ (l : List Seat). sent ++ to_seats me m l) (sym (seats_at seats k d within))
+    append_assoc sent ((x.1, m) ∷ []) (to_seats me meant (k + 1) (drop (k + 1) seats))
+    ∙ ap (λ (m : Message). sent ++ ((x.1, m) ∷ [] ++ to_seats me meant (k + 1) (drop (k + 1) seats))) is
+    ∙ ap (λ (b : Bool). sent ++ ((if b then [] else (x.1, meant k) ∷ []) ++ to_seats me meant (k + 1) (drop (k + 1) seats))) (sym no)
+    ∙ ap (λ (l : List Seat). sent ++ to_seats me meant k l) (sym (seats_at seats k d within))
     ∙ so
 
-pub seat_passed : (me : ℕ) (m : Message) (seats : List Seat) (k : ℕ) (d : Seat) (sent before : List (Proc × Message)) → k < length seats → (slice_index_or seats k d).1.0 ≡ me
-    → sent ++ to_seats me m (drop k seats) ≡ before → sent ++ to_seats me m (drop (k + 1) seats) ≡ before
-seat_passed me m seats k d sent before within same so =
+pub seat_passed : (me : ℕ) (meant : ℕ → Message) (seats : List Seat) (k : ℕ) (d : Seat) (sent before : List (Proc × Message)) → k < length seats → (slice_index_or seats k d).1.0 ≡ me
+    → sent ++ to_seats me meant k (drop k seats) ≡ before → sent ++ to_seats me meant (k + 1) (drop (k + 1) seats) ≡ before
+seat_passed me meant seats k d sent before within same so =
     let x : Seat = slice_index_or seats k d in
     let yes : (x.1.0 == me) ≡ true = eq-eqb x.1.0 me same in
-    ap (λ (b : Bool). sent ++ ((if b then [] else (x.1, m) ∷ []) ++ to_seats me m (drop (k + 1) seats))) (sym yes)
-    ∙ ap (λ (l : List Seat). sent ++ to_seats me m l) (sym (seats_at seats k d within))
+    ap (λ (b : Bool). sent ++ ((if b then [] else (x.1, meant k) ∷ []) ++ to_seats me meant (k + 1) (drop (k + 1) seats))) (sym yes)
+    ∙ ap (λ (l : List Seat). sent ++ to_seats me meant k l) (sym (seats_at seats k d within))
     ∙ so
 
-pub all_sent : (me : ℕ) (m : Message) (seats : List Seat) (k : ℕ) (sent before : List (Proc × Message)) → length seats ≤ k → sent ++ to_seats me m (drop k seats) ≡ before → sent ≡ before
-all_sent me m seats k sent before past so =
-    sym (append-nil sent) ∙ ap (λ (l : List Seat). sent ++ to_seats me m l) (sym (drop_of_length-le seats past)) ∙ so
+-- two that are compared
+pub differ : (r : Bool) (a b : ℕ) → r ≡ not (a == b) → r ≡ true → a ≡ b → ⊥
+differ r a b is ne same = absurd (true≢false (sym ne ∙ is ∙ ap not (eq-eqb a b same)))
+
+pub agree : (r : Bool) (a b : ℕ) → r ≡ not (a == b) → r ≡ false → a ≡ b
+agree r a b is eq = eqb-true a b (back (a == b) (sym is ∙ eq))
+  where
+    back : (t : Bool) → not t ≡ false → t ≡ true
+    back true e = refl
+    back false e = absurd cc
+
+pub all_sent : (me : ℕ) (meant : ℕ → Message) (seats : List Seat) (k : ℕ) (sent before : List (Proc × Message)) → length seats ≤ k → sent ++ to_seats me meant k (drop k seats) ≡ before → sent ≡ before
+all_sent me meant seats k sent before past so =
+    sym (append-nil sent) ∙ ap (λ (l : List Seat). sent ++ to_seats me meant k l) (sym (drop_of_length-le seats past)) ∙ so
 
 -- each that is sent to is one of the processes
-pub sent_below : (bound me : ℕ) (m : Message) (seats : List Seat) (before : List (Proc × Message)) → All (λ (s : Seat). s.1.0 < bound) seats → All (λ (x : Proc × Message). x.0.0 < bound) before
-    → All (λ (x : Proc × Message). x.0.0 < bound) (before ++ to_seats me m seats)
-sent_below bound me m seats before below were = All-append (λ (x : Proc × Message). x.0.0 < bound) before (to_seats me m seats) were (all seats below)
+pub sent_below : (bound me : ℕ) (meant : ℕ → Message) (seats : List Seat) (before : List (Proc × Message)) → All (λ (s : Seat). s.1.0 < bound) seats → All (λ (x : Proc × Message). x.0.0 < bound) before
+    → All (λ (x : Proc × Message). x.0.0 < bound) (before ++ to_seats me meant 0 seats)
+sent_below bound me meant seats before below were = All-append (λ (x : Proc × Message). x.0.0 < bound) before (to_seats me meant 0 seats) were (all seats 0 below)
   where
-    one : (b : Bool) (s : Seat) → s.1.0 < bound → All (λ (x : Proc × Message). x.0.0 < bound) (if b then [] else (s.1, m) ∷ [])
-    one true s low = All-nil (λ (x : Proc × Message). x.0.0 < bound)
-    one false s low = All-cons (λ (x : Proc × Message). x.0.0 < bound) (s.1, m) [] low (All-nil (λ (x : Proc × Message). x.0.0 < bound))
+    one : (b : Bool) (s : Seat) (m : Message) → s.1.0 < bound → All (λ (x : Proc × Message). x.0.0 < bound) (if b then [] else (s.1, m) ∷ [])
+    one true s m low = All-nil (λ (x : Proc × Message). x.0.0 < bound)
+    one false s m low = All-cons (λ (x : Proc × Message). x.0.0 < bound) (s.1, m) [] low (All-nil (λ (x : Proc × Message). x.0.0 < bound))
 
-    all : (seats : List Seat) → All (λ (s : Seat). s.1.0 < bound) seats → All (λ (x : Proc × Message). x.0.0 < bound) (to_seats me m seats)
-    all [] below = All-nil (λ (x : Proc × Message). x.0.0 < bound)
-    all (s ∷ seats) below =
-        All-append (λ (x : Proc × Message). x.0.0 < bound) (if s.1.0 == me then [] else (s.1, m) ∷ []) (to_seats me m seats)
-        (one (s.1.0 == me) s (All-head (λ (s : Seat). s.1.0 < bound) s seats below)) (all seats (All-tail (λ (s : Seat). s.1.0 < bound) s seats below))
+    all : (seats : List Seat) (k : ℕ) → All (λ (s : Seat). s.1.0 < bound) seats → All (λ (x : Proc × Message). x.0.0 < bound) (to_seats me meant k seats)
+    all [] k below = All-nil (λ (x : Proc × Message). x.0.0 < bound)
+    all (s ∷ seats) k below =
+        All-append (λ (x : Proc × Message). x.0.0 < bound) (if s.1.0 == me then [] else (s.1, meant k) ∷ []) (to_seats me meant (k + 1) seats)
+        (one (s.1.0 == me) s (meant k) (All-head (λ (s : Seat). s.1.0 < bound) s seats below)) (all seats (k + 1) (All-tail (λ (s : Seat). s.1.0 < bound) s seats below))
 
 map_append : {X Y : Type 0} (f : X → Y) (xs ys : List X) → map f (xs ++ ys) ≡ map f xs ++ map f ys
 map_append f [] ys = refl
 map_append f (x ∷ xs) ys = ap (λ l. f x ∷ l) (map_append f xs ys)
 
-pub posted_places : (me : ℕ) (t : Text) (seats : List Seat) (k : ℕ)
-    → map posted (flat_map (λ (place : ℕ × ℕ). if place.1 == me then [] else map (λ (t : Text). (place.1, t)) (t ∷ [])) (enumerate_from k (procs_of seats))) ≡ to_seats me (message_of t) seats
-posted_places me t [] k = refl
-posted_places me t (s ∷ seats) k =
-    map_append posted (if s.1.0 == me then [] else (s.1.0, t) ∷ []) (flat_map (λ (place : ℕ × ℕ). if place.1 == me then [] else map (λ (t : Text). (place.1, t)) (t ∷ [])) (enumerate_from (k + 1) (procs_of seats)))
-    ∙ (λ i. one (s.1.0 == me) i ++ posted_places me t seats (k + 1) i)
+pub posted_places : (me : ℕ) (meant : ℕ → Text) (seats : List Seat) (k : ℕ)
+    → map posted (flat_map (λ (place : ℕ × ℕ). if place.1 == me then [] else map (λ (t : Text). (place.1, t)) (meant place.0 ∷ [])) (enumerate_from k (procs_of seats))) ≡ to_seats me (λ x. message_of (meant x)) k seats
+posted_places me meant [] k = refl
+posted_places me meant (s ∷ seats) k =
+    map_append posted (if s.1.0 == me then [] else (s.1.0, meant k) ∷ []) (flat_map (λ (place : ℕ × ℕ). if place.1 == me then [] else map (λ (t : Text). (place.1, t)) (meant place.0 ∷ [])) (enumerate_from (k + 1) (procs_of seats)))
+    ∙ (λ i. one (s.1.0 == me) i ++ posted_places me meant seats (k + 1) i)
   where
-    one : (b : Bool) → map posted (if b then [] else (s.1.0, t) ∷ []) ≡ (if b then [] else (s.1, message_of t) ∷ [])
+    one : (b : Bool) → map posted (if b then [] else (s.1.0, meant k) ∷ []) ≡ (if b then [] else (s.1, message_of (meant k)) ∷ [])
     one true = refl
     one false = refl
 
 -- ---- where it stands
 
-gathers_at : (job : Job) (c : Standing) (n : Node) → c.stage ≡ stage.Gathering → IsNodeOf job c n → StandsAs stage.Gathering c n
-gathers_at job c n is h = subst (λ s. StandsAs s c n) is h.stands
+gathers_at : (job : Job) (c : Standing) (n : Node) → c.stage ≡ stage.Gathering → IsNodeOf job c n → StandsAs job stage.Gathering c n
+gathers_at job c n is h = subst (λ s. StandsAs job s c n) is h.stands
 
-walks_at : (job : Job) (c : Standing) (n : Node) → c.stage ≡ stage.Walking → IsNodeOf job c n → StandsAs stage.Walking c n
-walks_at job c n is h = subst (λ s. StandsAs s c n) is h.stands
+walks_at : (job : Job) (c : Standing) (n : Node) → c.stage ≡ stage.Walking → IsNodeOf job c n → StandsAs job stage.Walking c n
+walks_at job c n is h = subst (λ s. StandsAs job s c n) is h.stands
 
 still_so : (view : View) (walk : Walk) (flow : Flowing) → DoesRest view walk flow → at_of walk ≡ at.Outward → state_at (stop_of walk []) ≡ state_of flow
 still_so view (Ends state) flow does is = absurd (cc)
@@ -184,12 +198,13 @@ pub none_latest : (n : Node) → ((g : ℕ) → (n.groups g).created ≡ false) 
 none_latest n bare = λ i. of_each_below 8 (λ g. none_newest (n.groups g) (bare g) i)
 
 -- a walk that goes on behind an answer
-walks_on : (c : Standing) (n : Node) (place : TextPlace) (w : Wanted) (state : State) (rest : Reply → Walk) (given : Given) (flow : Flowing) → ((g : ℕ) → (n.groups g).created ≡ false)
-    → n.walk ≡ Asks place w state rest → WalksAlong 20001 c n → WasAnswered c.view n.walk (record { given = given; latest = latest n }) flow
-    → WalksAlong 20000 (record c { flow = flow; stage = stage.Walking }) (node.goes_on rest given n)
-walks_on c n place w state rest given flow bare at h answered =
+walks_on : (job : Job) (c : Standing) (n : Node) (place : TextPlace) (w : Wanted) (state : State) (rest : Reply → Walk) (given : Given) (flow : Flowing) → ((g : ℕ) → (n.groups g).created ≡ false)
+    → n.walk ≡ Asks place w state rest → Fits w given → WalksAlong job 20001 c n → WasAnswered c.view n.walk (record { given = given; latest = latest n }) flow
+    → WalksAlong job 20000 (record c { flow = flow; stage = stage.Walking }) (node.goes_on rest given n)
+walks_on job c n place w state rest given flow bare at fits h answered =
     let reply : Reply = record { given = given; latest = latest n } in
     let carried : OnlyCarried (Asks place w state rest) = subst OnlyCarried at h.carried in
+    let shaped : StaysShaped job.names (Asks place w state rest) = subst (StaysShaped job.names) at h.shaped in
     let does : DoesRest (view_after c.view reply) (rest reply) flow = subst (λ (x : Walk). WasAnswered c.view x reply flow) at answered in
     let same : view_after c.view reply ≡ c.view =
     ap (λ (v : View). record v { latest = latest n }) h.sees
@@ -200,6 +215,7 @@ walks_on c n place w state rest given flow bare at h answered =
       sees = h.sees;
       does = subst (λ (v : View). DoesRest v (rest reply) flow) same does;
       carried = carried.1 reply;
+      shaped = shaped.1 reply fits;
       placed = h.placed;
       left = fewer.0;
       within = fewer.1 reply;
@@ -210,11 +226,19 @@ walks_on c n place w state rest given flow bare at h answered =
     shorter zero within few = absurd within
     shorter (suc k) within few = (k, within, omega (arith, few))
 
+nothing_fits : (w : Wanted) → Fits w Nothing
+nothing_fits (wanted.Shift by own) = tt
+nothing_fits other = tt
+
+number_fits : (w : Wanted) (value : ℤ) → Fits w (Number value)
+number_fits (wanted.Shift by own) value = tt
+number_fits other value = tt
+
 pub goes_walking : (job : Job) (c : Standing) (n : Node) (place : TextPlace) (w : Wanted) (state : State) (rest : Reply → Walk) (given : Given) (flow : Flowing) → IsNodeOf job c n → c.stage ≡ stage.Gathering
-    → n.walk ≡ Asks place w state rest → (IsFlowOf job c.flow → IsFlowOf job flow)
+    → n.walk ≡ Asks place w state rest → Fits w given → (IsFlowOf job c.flow → IsFlowOf job flow)
     → ((view : View) (walk : Walk) (latest : List ℤ) → DoesRest view walk c.flow → WasAnswered view walk (record { given = given; latest = latest }) flow)
     → IsNodeOf job (record c { flow = flow; stage = stage.Walking }) (node.goes_on rest given n)
-goes_walking job c n place w state rest given flow h is at of_job answers =
+goes_walking job c n place w state rest given flow h is at fits of_job answers =
     let here = gathers_at job c n is h in
     record {
       me = h.me;
@@ -228,7 +252,7 @@ goes_walking job c n place w state rest given flow h is at of_job answers =
       bare = h.bare;
       is_flow = of_job h.is_flow;
       knows = h.knows;
-      stands = (refl, walks_on c n place w state rest given flow h.bare at here.1 (answers c.view n.walk (latest n) here.1.does), here.2, here.3);
+      stands = (refl, walks_on job c n place w state rest given flow h.bare at fits here.1 (answers c.view n.walk (latest n) here.1.does), here.2, here.3);
     }
 
 pub passes_so : (job : Job) (c : Standing) (n : Node) (place : TextPlace) (w : Wanted) (state : State) (rest : Reply → Walk) (flow : Flowing) (sent : List (Proc × Message)) (told told' : List Item)
@@ -238,7 +262,7 @@ pub passes_so : (job : Job) (c : Standing) (n : Node) (place : TextPlace) (w : W
     → Takes job (passes n rest) moved.Acted (record c { flow = flow; stage = stage.Walking }) sent sent told told'
 passes_so job c n place w state rest flow sent told told' h is at of_job answers wrote = record {
   says = refl;
-  node = goes_walking job c n place w state rest Nothing flow h is at of_job answers;
+  node = goes_walking job c n place w state rest Nothing flow h is at (nothing_fits w) of_job answers;
   sends = sym (append-nil sent);
   items = rw (h.me, h.epoch, h.calls) wrote;
 }
@@ -250,10 +274,28 @@ pub gives_number_so : (job : Job) (c : Standing) (n : Node) (place : TextPlace) 
     → Takes job (returns_number n rest value) moved.Acted (record c { flow = flow; stage = stage.Walking }) sent sent told told'
 gives_number_so job c n place w state rest value flow sent told told' h is at of_job answers wrote = record {
   says = refl;
-  node = goes_walking job c n place w state rest (Number value) flow h is at of_job answers;
+  node = goes_walking job c n place w state rest (Number value) flow h is at (number_fits w value) of_job answers;
   sends = sym (append-nil sent);
   items = rw (h.me, h.epoch, h.calls) wrote;
 }
+
+-- elements that fit are given
+pub gives_elements_so : (job : Job) (c : Standing) (n : Node) (place : TextPlace) (w : Wanted) (state : State) (rest : Reply → Walk) (elements : List ℤ) (flow : Flowing) (sent : List (Proc × Message)) (told told' : List Item)
+    → IsNodeOf job c n → c.stage ≡ stage.Gathering → n.walk ≡ Asks place w state rest → Fits w (Elements elements)
+    → ((view : View) (walk : Walk) → IsFlowOf job c.flow → DoesRest view walk c.flow → IsGivenFitting job.names walk (Elements elements) → IsFlowOf job flow)
+    → ((view : View) (walk : Walk) (latest : List ℤ) → DoesRest view walk c.flow → WasAnswered view walk (record { given = Elements elements; latest = latest }) flow)
+    → told' ≡ told ++ item.Shifted (proc c.me) (epoch_no c.epoch) (call_no c.calls) elements ∷ []
+    → Takes job (returns_elements n rest elements) moved.Acted (record c { flow = flow; stage = stage.Walking }) sent sent told told'
+gives_elements_so job c n place w state rest elements flow sent told told' h is at fits of_job answers wrote =
+    let here = gathers_at job c n is h in
+    let fitting : IsGivenFitting job.names n.walk (Elements elements) =
+    subst (λ (x : Walk). IsGivenFitting job.names x (Elements elements)) (sym at) (subst (StaysShaped job.names) at here.1.shaped, fits) in
+    record {
+      says = refl;
+      node = goes_walking job c n place w state rest (Elements elements) flow h is at fits (λ of. of_job c.view n.walk of here.1.does fitting) answers;
+      sends = sym (append-nil sent);
+      items = rw (h.me, h.epoch, h.calls) wrote;
+    }
 
 -- ---- the entry
 
@@ -272,11 +314,12 @@ next_call : (epoch calls : ℕ) → kept.goes_on epoch calls epoch (suc calls) �
 next_call epoch calls =
     or_right (nat_lt epoch epoch) _ (and_from (epoch == epoch) (nat_le calls (suc calls)) (eq-eqb epoch epoch refl) (le-leb calls (suc calls) (omega arith)))
 
-walks_in : (c : Standing) (n : Node) (calls : ℕ) (box : Kept) → WalksAlong 20000 c n → WalksAlong 20001 (record c { calls = calls; stage = stage.Gathering; inbox = box }) (entered node.Gathering n)
-walks_in c n calls box h = record {
+walks_in : (job : Job) (c : Standing) (n : Node) (calls : ℕ) (box : Kept) → WalksAlong job 20000 c n → WalksAlong job 20001 (record c { calls = calls; stage = stage.Gathering; inbox = box }) (entered node.Gathering n)
+walks_in job c n calls box h = record {
   sees = h.sees;
   does = h.does;
   carried = h.carried;
+  shaped = h.shaped;
   placed = h.placed;
   left = h.left;
   within = h.within;
@@ -304,16 +347,16 @@ goes_gathering job c n place w state rest next box h is at is_next comes =
       knows =
           subst (λ (d : ℕ). Knows n.me d (suc n.calls) n.lost n.texts box) (sym h.epoch)
           (subst (λ (k : ℕ). Knows n.me c.epoch k n.lost n.texts box) (sym number) (comes n.me n.epoch n.calls n.lost n.texts on h.knows));
-      stands = (refl, walks_in c n next box here.1, here.2, here.3, ap at_of at);
+      stands = (refl, walks_in job c n next box here.1, here.2, here.3, ap at_of at);
     }
 
-pub enters_so : (job : Job) (c : Standing) (n : Node) (place : TextPlace) (w : Wanted) (state : State) (rest : Reply → Walk) (next : ℕ) (box : Kept) (values : List ℤ) (entering : Proc → Epoch → CallNo → Item)
+pub enters_so : (job : Job) (c : Standing) (n : Node) (place : TextPlace) (w : Wanted) (state : State) (rest : Reply → Walk) (next : ℕ) (box : Kept) (meant : ℕ → List ℤ) (entering : Proc → Epoch → CallNo → Item)
     (sent sent' : List (Proc × Message)) (told told' : List Item) → IsNodeOf job c n → c.stage ≡ stage.Walking → n.walk ≡ Asks place w state rest → next ≡ suc c.calls → ComesTo c next box
-    → sent' ≡ sent ++ to_seats c.me (message.Part (epoch_no c.epoch) (call_no next) values) c.comm
+    → sent' ≡ sent ++ to_seats c.me (λ x. message.Part (epoch_no c.epoch) (call_no next) (meant x)) 0 c.comm
     → told' ≡ told ++ entering (proc c.me) (epoch_no c.epoch) (call_no next) ∷ []
-    → Takes job (enters n node.Gathering (entering (proc n.me) (epoch_no n.epoch) (call_no (suc n.calls))) (λ x. part n values ∷ [])) moved.Acted
+    → Takes job (enters n node.Gathering (entering (proc n.me) (epoch_no n.epoch) (call_no (suc n.calls))) (λ x. part n (meant x) ∷ [])) moved.Acted
     (record c { calls = next; stage = stage.Gathering; inbox = box }) sent sent' told told'
-enters_so job c n place w state rest next box values entering sent sent' told told' h is at is_next comes went wrote =
+enters_so job c n place w state rest next box meant entering sent sent' told told' h is at is_next comes went wrote =
     let number : suc n.calls ≡ next = ap suc h.calls ∙ sym is_next in
     record {
       says = refl;
@@ -321,19 +364,39 @@ enters_so job c n place w state rest next box values entering sent sent' told to
       sends =
           went
           ∙ ap (λ (l : List (Proc × Message)). sent ++ l)
-          (sym (posted_places n.me (part n values) n.comm 0 ∙ (λ i. to_seats (h.me i) (message.Part (epoch_no (h.epoch i)) (call_no (number i)) values) (h.comm i))));
+          (sym (posted_places n.me (λ x. part n (meant x)) n.comm 0 ∙ (λ i. to_seats (h.me i) (λ x. message.Part (epoch_no (h.epoch i)) (call_no (number i)) (meant x)) 0 (h.comm i))));
       items = wrote ∙ sym (λ i. told ++ entering (proc (h.me i)) (epoch_no (h.epoch i)) (call_no (number i)) ∷ []);
     }
 
-pub enters_there : (job : Job) (c after : Standing) (n : Node) (place : TextPlace) (w : Wanted) (state : State) (rest : Reply → Walk) (next : ℕ) (values : List ℤ) (entering : Proc → Epoch → CallNo → Item)
+pub enters_there : (job : Job) (c after : Standing) (n : Node) (place : TextPlace) (w : Wanted) (state : State) (rest : Reply → Walk) (next : ℕ) (meant : ℕ → List ℤ) (entering : Proc → Epoch → CallNo → Item)
     (sent sent' : List (Proc × Message)) (told told' : List Item) → IsNodeOf job c n → c.stage ≡ stage.Walking → n.walk ≡ Asks place w state rest → next ≡ suc c.calls
     → after ≡ record c { calls = next; stage = stage.Gathering; inbox = after.inbox } → ComesTo c next after.inbox
-    → sent' ≡ sent ++ to_seats c.me (message.Part (epoch_no c.epoch) (call_no next) values) c.comm
+    → sent' ≡ sent ++ to_seats c.me (λ x. message.Part (epoch_no c.epoch) (call_no next) (meant x)) 0 c.comm
     → told' ≡ told ++ entering (proc c.me) (epoch_no c.epoch) (call_no next) ∷ []
-    → Takes job (enters n node.Gathering (entering (proc n.me) (epoch_no n.epoch) (call_no (suc n.calls))) (λ x. part n values ∷ [])) moved.Acted after sent sent' told told'
-enters_there job c after n place w state rest next values entering sent sent' told told' h is at is_next same comes went wrote =
-    subst (λ (s : Standing). Takes job (enters n node.Gathering (entering (proc n.me) (epoch_no n.epoch) (call_no (suc n.calls))) (λ x. part n values ∷ [])) moved.Acted s sent sent' told told') (sym same)
-    (enters_so job c n place w state rest next after.inbox values entering sent sent' told told' h is at is_next comes went wrote)
+    → Takes job (enters n node.Gathering (entering (proc n.me) (epoch_no n.epoch) (call_no (suc n.calls))) (λ x. part n (meant x) ∷ [])) moved.Acted after sent sent' told told'
+enters_there job c after n place w state rest next meant entering sent sent' told told' h is at is_next same comes went wrote =
+    subst (λ (s : Standing). Takes job (enters n node.Gathering (entering (proc n.me) (epoch_no n.epoch) (call_no (suc n.calls))) (λ x. part n (meant x) ∷ [])) moved.Acted s sent sent' told told') (sym same)
+    (enters_so job c n place w state rest next after.inbox meant entering sent sent' told told' h is at is_next comes went wrote)
+
+-- the place to which the elements of a shift go is counted from one's own
+pub enters_shift_there : (job : Job) (c after : Standing) (n : Node) (place : TextPlace) (by : ℕ) (own : List ℤ) (state : State) (rest : Reply → Walk) (next mine target : ℕ)
+    (sent sent' : List (Proc × Message)) (told told' : List Item) → IsNodeOf job c n → c.stage ≡ stage.Walking → n.walk ≡ Asks place (wanted.Shift by own) state rest → next ≡ suc c.calls
+    → place_in c.comm c.me ≡ Some mine → target ≡ target_of (length c.comm) by mine
+    → after ≡ record c { calls = next; stage = stage.Gathering; inbox = after.inbox } → ComesTo c next after.inbox
+    → sent' ≡ sent ++ to_seats c.me (λ x. message.Part (epoch_no c.epoch) (call_no next) (share_of (Some target) own x)) 0 c.comm
+    → told' ≡ told ++ item.Shift (proc c.me) (epoch_no c.epoch) (call_no next) by own ∷ []
+    → Takes job (enters_shift n by own) moved.Acted after sent sent' told told'
+enters_shift_there job c after n place by own state rest next mine target sent sent' told told' h is at is_next there to same comes went wrote =
+    let goes : target_of (node.size n) by (node.my_place n) ≡ target =
+    (λ i. target_of (length (h.comm i)) by (my_place_is n c.comm c.me mine h.comm h.me there i)) ∙ sym to in
+    subst (λ (d : ℕ). Takes job (enters n node.Gathering (item.Shift (proc n.me) (epoch_no n.epoch) (call_no (suc n.calls)) by own) (λ x. part n (share_of (Some d) own x) ∷ [])) moved.Acted after sent sent' told told') (sym goes)
+    (enters_there job c after n place (wanted.Shift by own) state rest next (share_of (Some target) own) (λ p e k. item.Shift p e k by own) sent sent' told told' h is at is_next same comes went wrote)
+
+pub walks_with_place : (job : Job) (c : Standing) (n : Node) → IsNodeOf job c n → c.stage ≡ stage.Walking → place_in c.comm c.me ≡ None → ⊥
+walks_with_place job c n h is none =
+    let here : has_place n.comm n.me ≡ true = (walks_at job c n is h).1.placed in
+    let no : has_place n.comm n.me ≡ false = rw (h.comm, h.me) (has_place_in c.comm c.me ∙ ap is_some none) in
+    absurd (true≢false (sym here ∙ no))
 
 -- ---- what is asked
 
@@ -359,26 +422,26 @@ is_carried_out job c n place w state rest h is at =
     let carried : OnlyCarried (Asks place w state rest) = subst OnlyCarried at (walks_at job c n is h).1.carried in
     carried.0
 
--- what is carried out is a barrier or a reduction
-pub is_one_of : (w : Wanted) → is_carried w ≡ true → (w ≡ wanted.Barrier → ⊥) → ((op : Op) (own : ℤ) → w ≡ wanted.Reduce op own → ⊥) → ⊥
-is_one_of wanted.Barrier is first second = first refl
-is_one_of (wanted.Reduce op own) is first second = second op own refl
-is_one_of (wanted.Agree flag) is first second = absurd cc
-is_one_of (wanted.Shift by elements) is first second = absurd cc
-is_one_of (wanted.Group g start depth) is first second = absurd cc
-is_one_of (wanted.Attach g m) is first second = absurd cc
-is_one_of (wanted.Store g m piece) is first second = absurd cc
-is_one_of (wanted.Commit g) is first second = absurd cc
-is_one_of (wanted.Close g) is first second = absurd cc
-is_one_of (wanted.Restore g m stamp) is first second = absurd cc
-is_one_of (wanted.Delete g stamp) is first second = absurd cc
+-- what is carried out is a barrier, a reduction or a shift
+pub is_one_of : (w : Wanted) → is_carried w ≡ true → (w ≡ wanted.Barrier → ⊥) → ((op : Op) (own : ℤ) → w ≡ wanted.Reduce op own → ⊥) → ((by : ℕ) (own : List ℤ) → w ≡ wanted.Shift by own → ⊥) → ⊥
+is_one_of wanted.Barrier is first second third = first refl
+is_one_of (wanted.Reduce op own) is first second third = second op own refl
+is_one_of (wanted.Shift by own) is first second third = third by own refl
+is_one_of (wanted.Agree flag) is first second third = absurd cc
+is_one_of (wanted.Group g start depth) is first second third = absurd cc
+is_one_of (wanted.Attach g m) is first second third = absurd cc
+is_one_of (wanted.Store g m piece) is first second third = absurd cc
+is_one_of (wanted.Commit g) is first second third = absurd cc
+is_one_of (wanted.Close g) is first second third = absurd cc
+is_one_of (wanted.Restore g m stamp) is first second third = absurd cc
+is_one_of (wanted.Delete g stamp) is first second third = absurd cc
 
 -- it gathers parts
 front_so : (job : Job) (n : Node) (w : Wanted) (rest : Reply → Walk) → is_carried w ≡ true → in_gathering n w rest ≡ in_call (job_setup job) n w rest node.Gathering
 front_so job n wanted.Barrier rest is = refl
 front_so job n (wanted.Reduce op own) rest is = refl
 front_so job n (wanted.Agree flag) rest is = absurd cc
-front_so job n (wanted.Shift by elements) rest is = absurd cc
+front_so job n (wanted.Shift by own) rest is = refl
 front_so job n (wanted.Group g start depth) rest is = absurd cc
 front_so job n (wanted.Attach g m) rest is = absurd cc
 front_so job n (wanted.Store g m piece) rest is = absurd cc

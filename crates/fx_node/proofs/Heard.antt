@@ -39,18 +39,18 @@ has_voted lost texts n phase own h = record {
   told = own_are (suc n.epoch) lost texts n own h.told;
 }
 
-walks : (most : ℕ) (lost : ℕ → Bool) (texts : ℕ → List Text) (box : Kept) (c : Standing) (n : Node) → WalksAlong most c n → WalksAlong most (record c { inbox = box }) (with lost texts n)
-walks most lost texts box c n h = record { sees = h.sees; does = h.does; carried = h.carried; placed = h.placed; left = h.left; within = h.within; few = h.few }
+walks : (job : Job) (most : ℕ) (lost : ℕ → Bool) (texts : ℕ → List Text) (box : Kept) (c : Standing) (n : Node) → WalksAlong job most c n → WalksAlong job most (record c { inbox = box }) (with lost texts n)
+walks job most lost texts box c n h = record { sees = h.sees; does = h.does; carried = h.carried; shaped = h.shaped; placed = h.placed; left = h.left; within = h.within; few = h.few }
 
-stands : (lost : ℕ → Bool) (texts : ℕ → List Text) (box : Kept) (at : Stage) (c : Standing) (n : Node) → texts n.me ≡ n.texts n.me
-    → StandsAs at c n → StandsAs at (record c { inbox = box }) (with lost texts n)
-stands lost texts box stage.Begins c n own h = (h.0, h.1, own_are n.epoch lost texts n own h.2, h.3)
-stands lost texts box (stage.Joining phase) c n own h = (h.0, h.1, has_voted lost texts n phase own h.2)
-stands lost texts box stage.Arrived c n own h = (h.0, h.1, own_are n.epoch lost texts n own h.2, h.3, h.4)
-stands lost texts box stage.Walking c n own h = (h.0, walks 20000 lost texts box c n h.1, own_are n.epoch lost texts n own h.2, h.3)
-stands lost texts box stage.Gathering c n own h = (h.0, walks 20001 lost texts box c n h.1, own_are n.epoch lost texts n own h.2, h.3, h.4)
-stands lost texts box stage.Failed c n own h = (h.0, h.1, own_are n.epoch lost texts n own h.2, h.3)
-stands lost texts box stage.Over c n own h = h
+stands : (job : Job) (lost : ℕ → Bool) (texts : ℕ → List Text) (box : Kept) (at : Stage) (c : Standing) (n : Node) → texts n.me ≡ n.texts n.me
+    → StandsAs job at c n → StandsAs job at (record c { inbox = box }) (with lost texts n)
+stands job lost texts box stage.Begins c n own h = (h.0, h.1, own_are n.epoch lost texts n own h.2, h.3)
+stands job lost texts box (stage.Joining phase) c n own h = (h.0, h.1, has_voted lost texts n phase own h.2)
+stands job lost texts box stage.Arrived c n own h = (h.0, h.1, own_are n.epoch lost texts n own h.2, h.3, h.4)
+stands job lost texts box stage.Walking c n own h = (h.0, walks job 20000 lost texts box c n h.1, own_are n.epoch lost texts n own h.2, h.3)
+stands job lost texts box stage.Gathering c n own h = (h.0, walks job 20001 lost texts box c n h.1, own_are n.epoch lost texts n own h.2, h.3, h.4)
+stands job lost texts box stage.Failed c n own h = (h.0, h.1, own_are n.epoch lost texts n own h.2, h.3)
+stands job lost texts box stage.Over c n own h = h
 
 still_is : (job : Job) (lost : ℕ → Bool) (texts : ℕ → List Text) (box : Kept) (c : Standing) (n : Node) → texts n.me ≡ n.texts n.me
     → IsNodeOf job c n → IsInboxOf (with lost texts n) box → IsNodeOf job (record c { inbox = box }) (with lost texts n)
@@ -66,7 +66,7 @@ still_is job lost texts box c n own h knows = record {
   bare = h.bare;
   is_flow = h.is_flow;
   knows = knows;
-  stands = stands lost texts box c.stage c n own h.stands;
+  stands = stands job lost texts box c.stage c n own h.stands;
 }
 
 -- ---- what comes in

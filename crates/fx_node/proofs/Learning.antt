@@ -12,12 +12,12 @@ use Rattle.fx_coll.specs.declared.known.Known.{Known}
 use Rattle.fx_coll.specs.declared.part.Part.{Part}
 use Rattle.fx_coll.specs.declared.part.Part.TheVariants as part
 use Rattle.fx_inbox.specs.Keeping.{part_from}
-use Rattle.fx_machine.specs.Gathering.{own_part, part_of}
+use Rattle.fx_machine.specs.Gathering.{due_from, own_part, source_of}
 use Rattle.fx_machine.specs.Nodes.{Node, my_place, proc_at, size}
 use Rattle.fx_machine.specs.Reading as reading
 use Rattle.fx_machine.specs.Reading.{first_read, given_that, only}
 use Rattle.fx_machine.specs.Texts.{Text}
-use Rattle.fx_node.specs.Asking.{HasKind, HaveKind, IsFresh, IsTold, due_in, is_carried, part_in, taken}
+use Rattle.fx_node.specs.Asking.{HasKind, HaveKind, IsFresh, IsTold, is_carried, part_in, taken}
 use Rattle.fx_base.specs.declared.names.Op.{Op}
 use Rattle.fx_walk.specs.declared.wanted.Wanted.{Wanted}
 use Rattle.fx_walk.specs.declared.wanted.Wanted.TheVariants as wanted
@@ -164,7 +164,7 @@ mine_so : (w : Wanted) → is_carried w ≡ true → values_in (part_in w) ≡ o
 mine_so wanted.Barrier is = refl
 mine_so (wanted.Reduce op own) is = refl
 mine_so (wanted.Agree flag) is = absurd cc
-mine_so (wanted.Shift by elements) is = absurd cc
+mine_so (wanted.Shift by own) is = refl
 mine_so (wanted.Group g start depth) is = absurd cc
 mine_so (wanted.Attach g m) is = absurd cc
 mine_so (wanted.Store g m piece) is = absurd cc
@@ -173,28 +173,14 @@ mine_so (wanted.Close g) is = absurd cc
 mine_so (wanted.Restore g m stamp) is = absurd cc
 mine_so (wanted.Delete g stamp) is = absurd cc
 
-part_so : (n : Node) (w : Wanted) (x : ℕ) → is_carried w ≡ true → part_of n w x ≡ (if x == my_place n then Some (own_part w) else part_from n (due_in w) (proc_at n x))
-part_so n wanted.Barrier x is = refl
-part_so n (wanted.Reduce op own) x is = refl
-part_so n (wanted.Agree flag) x is = absurd cc
-part_so n (wanted.Shift by elements) x is = absurd cc
-part_so n (wanted.Group g start depth) x is = absurd cc
-part_so n (wanted.Attach g m) x is = absurd cc
-part_so n (wanted.Store g m piece) x is = absurd cc
-part_so n (wanted.Commit g) x is = absurd cc
-part_so n (wanted.Close g) x is = absurd cc
-part_so n (wanted.Restore g m stamp) x is = absurd cc
-part_so n (wanted.Delete g stamp) x is = absurd cc
-
 pub told_so : (n : Node) (w : Wanted) (x who : ℕ) (o : Option Part) (lost left : Bool) (old new : List Known) → is_carried w ≡ true → Learnt x o lost left old new → proc_at n x ≡ who
-    → IsFresh n w (known_at old x) x → option_map values_in o ≡ part_from n (due_in w) who → lost ≡ n.lost who → left ≡ reading.has_left n who → IsTold n w (known_at new x) x
+    → IsFresh n w (known_at old x) x → option_map values_in o ≡ part_from n (due_from w (size n) (my_place n) x) who → lost ≡ n.lost who → left ≡ reading.has_left n who → IsTold n w (known_at new x) x
 told_so n w x who o lost left old new is l at fresh heard told away = record {
   part =
       ap (λ (k : Known). option_map values_in k.part) l.this
       ∙ ap (option_map values_in) (part_learnt o lost left (known_at old x))
       ∙ ap (λ (before : Option Part). option_map values_in (first_part o before)) fresh.part
-      ∙ own_or_heard o (x == my_place n) (part_in w) (own_part w) (part_from n (due_in w) (proc_at n x)) (heard ∙ ap (part_from n (due_in w)) (sym at)) (mine_so w is)
-      ∙ sym (part_so n w x is);
+      ∙ own_or_heard o (x == my_place n) (part_in w) (own_part w) (part_from n (due_from w (size n) (my_place n) x) (proc_at n x)) (heard ∙ ap (part_from n (due_from w (size n) (my_place n) x)) (sym at)) (mine_so w is);
   lost = ap (λ (k : Known). k.lost) l.this ∙ lost_learnt o lost left (known_at old x) fresh.lost ∙ told ∙ ap n.lost (sym at);
   left = ap (λ (k : Known). k.left) l.this ∙ left_learnt o lost left (known_at old x) fresh.left ∙ away ∙ ap (reading.has_left n) (sym at);
 }
@@ -328,3 +314,17 @@ knows_all n w k known past h = record {
   lost = λ x below. (h.told x (omega (arith, past, below))).lost;
   left = λ x below. (h.told x (omega (arith, past, below))).left;
 }
+
+-- ---- a shift
+
+-- of the place whose elements are due as many come as are given away
+pub source_fits : (n : Node) (by x : ℕ) (own : List ℤ) (known : List Known) (given : Part) → StandsFor known n (wanted.Shift by own) → x ≡ source_of (size n) by (my_place n) → x < size n
+    → (known_at known x).part ≡ Some given → length (values_in given) ≡ length own
+source_fits n by x own known given stands is below there =
+    by_place (x == my_place n) (sym (stands.parts x below) ∙ ap (option_map values_in) there) where
+      due : due_from (wanted.Shift by own) (size n) (my_place n) x ≡ length own
+      due = ap (λ (b : Bool). if b then length own else 0) (eq-eqb x (source_of (size n) by (my_place n)) is)
+
+      by_place : (b : Bool) → (if b then Some own else part_from n (due_from (wanted.Shift by own) (size n) (my_place n) x) (proc_at n x)) ≡ Some (values_in given) → length (values_in given) ≡ length own
+      by_place true e = ap length (sym (some_same own (values_in given) e))
+      by_place false e = read_length n (due_from (wanted.Shift by own) (size n) (my_place n) x) (proc_at n x) (values_in given) e ∙ due

@@ -8,6 +8,7 @@ mod First
 mod Heard
 pub mod Joining
 pub mod Learning
+mod Rows
 pub mod Taking
 pub mod Telling
 pub mod Testing

@@ -63,7 +63,7 @@ pub record Votes (job : Job) (c : Standing) (n : Node) (p : Phase) : Type 0 wher
   pub apart : Distinct c.present
 
 pub stands_so : (job : Job) (c : Standing) (n : Node) (p : Phase) → Votes job c n p → (n.stage ≡ node.Joining (phase_of p)) × IsStill c n × HasVoted n p
-stands_so job c n p v = subst (λ (s : Stage). StandsAs s c n) v.at v.is.stands
+stands_so job c n p v = subst (λ (s : Stage). StandsAs job s c n) v.at v.is.stands
 
 holds_on : (job : Job) (c : Standing) (n : Node) (p later : Phase) → (v : Votes job c n p) → phase_of later ≡ (turn_of n p).phase → HoldsVote n (stands_so job c n p v).2.vote later
 holds_on job c n p later v e =

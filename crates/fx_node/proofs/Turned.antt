@@ -1,11 +1,18 @@
 -- What a process does behind the turn that it took.
-use Rattle.std.proofs.Common.{◌≡◌, ◌<◌, ◌++◌, ℕ, true, List, Some, sym, subst, ◌∙◌, arith}
+use Rattle.std.proofs.Common.{◌≡◌, ◌<◌, ◌++◌, ℕ, suc, true, List, Some, sym, ap, subst, ◌∙◌, arith}
 use Rattle.std.specs.Prelude.{nat_lt}
 use Rattle.std.proofs.lemmas.Bool.Decides.{nat_tests}
 use Rattle.fx_ballot.specs.declared.poll.Poll.{Poll}
 use Rattle.fx_ballot.specs.declared.poll.Poll.TheVariants as poll
+use Rattle.fx_ballot.specs.Turn as ballot
+use Rattle.fx_base.specs.declared.names.Epoch.{Epoch}
 use Rattle.fx_base.specs.declared.names.Proc.{Proc}
 use Rattle.fx_fleet.specs.Runs.{job_setup}
+use Rattle.fx_inbox.specs.Ballots.{IsNow, TakesPart, about_of, ballot_of, is_vote_in}
+use Rattle.fx_inbox.specs.declared.ballot.About.{About}
+use Rattle.fx_inbox.specs.declared.ballot.About.TheVariants as about
+use Rattle.fx_inbox.specs.declared.ballot.Ballot.{Ballot as Described}
+use Rattle.fx_inbox.specs.declared.phase.Phase.{Phase}
 use Rattle.fx_inbox.specs.Keeping.{IsInboxOf}
 use Rattle.fx_inbox.specs.Turns.{IsTurn, Leaves, Stays}
 use Rattle.fx_item.specs.declared.item.Item.{Item}
@@ -14,6 +21,7 @@ use Rattle.fx_link.specs.declared.slot.Slot.{Slot}
 use Rattle.fx_machine.specs.Ballots.{decides_epoch}
 use Rattle.fx_machine.specs.Messages.{wire_text}
 use Rattle.fx_machine.specs.Nodes.{Node, keeping}
+use Rattle.fx_machine.specs.Reading.{Ballot, OfEpoch, is_join, next_ballot, turn_in}
 use Rattle.fx_machine.specs.Steps.{next}
 use Rattle.fx_node.specs.declared.node.Moved.{Moved}
 use Rattle.fx_node.specs.declared.node.Moved.TheVariants as moved
@@ -22,6 +30,18 @@ use Rattle.fx_node.specs.Standing.{Standing, HasTurned, IsDeciding, IsNodeOf}
 use Rattle.fx_node.specs.Stepping.{Steps, broadcast, estimate_message}
 use Rattle.fx_node.proofs.Taking.{Votes, turn_of, stands_so, rests, goes_on, speaks_so, decides_so}
 use Rattle.fx_script.specs.declared.job.Job.{Job}
+
+pub takes_next : (n : Node) (d : Described) (e : Epoch) (members : List ℕ) (phase : ballot.Phase) (said : Poll) (after : Phase) → d.about ≡ about.Epoch e → d.members.now ≡ members → d.present.now ≡ members
+    → n.epoch ≡ e.0 → n.present ≡ members → (TakesPart d n → IsTurn (turn_in (ballot_of d) n phase) said after) → IsTurn (turn_in (next_ballot n) n phase) said after
+takes_next n d e members phase said after about who there epoch present takes =
+    subst (λ (b : Ballot). IsTurn (turn_in b n phase) said after)
+    ((λ i. record { about = about_of (about i); members = who i; is_vote = is_vote_in (about i) })
+    ∙ (λ i. record { about = OfEpoch (suc (sym epoch i)); members = sym present i; is_vote = is_join (suc (sym epoch i)) }))
+    (takes
+    (record {
+      now = subst (λ (a : About). IsNow n.epoch n.calls (about_of a)) (sym about) (ap suc (sym epoch));
+      present = present ∙ sym there;
+    }))
 
 votes : (job : Job) (c d : Standing) (n : Node) (said : Poll) → (h : HasTurned c d said) → IsNodeOf job c n → Votes job c n h.before
 votes job c d n said h is = record { is = is; at = h.at; apart = h.apart }

@@ -1,5 +1,5 @@
 -- What a body may ask for, and the parts of a call.
-use Rattle.std.specs.Prelude.{◌≡◌, ◌<◌, ◌==◌, length, ℕ, Bool, true, false, if◌then◌else◌, List, [], ◌∷◌, ◌++◌, Option, Some, None, option_map}
+use Rattle.std.specs.Prelude.{◌≡◌, ◌<◌, ◌==◌, ◌+◌, length, ℕ, ℤ, Bool, true, false, if◌then◌else◌, List, [], ◌∷◌, ◌++◌, Option, Some, None, option_map}
 use Rattle.fx_base.specs.declared.names.Proc.{Proc}
 use Rattle.fx_check.specs.Facts.{facts_of}
 use Rattle.fx_coll.specs.Keeping.{gives, known_at}
@@ -22,10 +22,11 @@ use Rattle.fx_walk.specs.declared.wanted.Wanted.TheVariants as wanted
 
 -- ---- what is carried out
 
--- barriers and reductions are; no other statement that asks something of others is
+-- barriers, reductions and shifts are; no other statement that asks something of others is
 abbrev pub is_carried : Wanted → Bool
 is_carried wanted.Barrier = true
 is_carried (wanted.Reduce op own) = true
+is_carried (wanted.Shift by own) = true
 is_carried other = false
 
 -- a walk asks only for what is carried out, whatever is replied, and what is printed has a name
@@ -41,22 +42,23 @@ AsksCarried job = (view : View) (state : State) → OnlyCarried (walk_of (facts_
 
 -- ---- sending
 
--- a message to the process of each place but one's own
-abbrev pub to_seats : ℕ → Message → List Seat → List (Proc × Message)
-to_seats me message [] = []
-to_seats me message (seat ∷ seats) = (if seat.1.0 == me then [] else (seat.1, message) ∷ []) ++ to_seats me message seats
+-- the values that go to a place: to each the same, or to one only, and none to the others
+abbrev pub share_of : Option ℕ → List ℤ → ℕ → List ℤ
+share_of None values x = values
+share_of (Some target) values x = if x == target then values else []
+
+-- to the process of each place but one's own, from this place on, what is meant for the place
+abbrev pub to_seats : ℕ → (ℕ → Message) → ℕ → List Seat → List (Proc × Message)
+to_seats me meant x [] = []
+to_seats me meant x (seat ∷ seats) = (if seat.1.0 == me then [] else (seat.1, meant x) ∷ []) ++ to_seats me meant (x + 1) seats
 
 -- ---- parts
 
 -- one's own part
 abbrev pub part_in : Wanted → Part
 part_in (wanted.Reduce op own) = part.Number own
+part_in (wanted.Shift by own) = part.Elems own
 part_in other = part.Empty
-
--- how many numbers are due from each other place
-abbrev pub due_in : Wanted → ℕ
-due_in (wanted.Reduce op own) = 1
-due_in other = 0
 
 -- a part is of the kind that is asked for: in a reduction a number
 abbrev pub HasKind : Wanted → Option Part → Type 0

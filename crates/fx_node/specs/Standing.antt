@@ -20,6 +20,7 @@ use Rattle.fx_machine.specs.Reading.{is_join, is_past_at, next_ballot, turn_in, 
 use Rattle.fx_node.specs.declared.stage.Stage.{Stage}
 use Rattle.fx_node.specs.declared.stage.Stage.TheVariants as stage
 use Rattle.fx_script.specs.declared.job.Job.{Job}
+use Rattle.fx_value.specs.Shape.{StaysShaped}
 use Rattle.fx_walk.specs.Along.{at_of}
 use Rattle.fx_walk.specs.Callbacks.{view_at_init}
 use Rattle.fx_walk.specs.declared.action.At.TheVariants as at
@@ -79,12 +80,13 @@ pub record HasVoted (n : Node) (phase : Phase) : Type 0 where
   pub counted : may_join n ≡ true
   pub told : OwnAreUpTo (suc n.epoch) n
 
--- It does what is left of the node's walk, which asks only for what is carried out. It has a place. The calls so far and those that
--- can come are at most so many.
-pub record WalksAlong (most : ℕ) (c : Standing) (n : Node) : Type 0 where
+-- It does what is left of the node's walk, which asks only for what is carried out, and stays in the shape that the job declares.
+-- It has a place. The calls so far and those that can come are at most so many.
+pub record WalksAlong (job : Job) (most : ℕ) (c : Standing) (n : Node) : Type 0 where
   pub sees : c.view ≡ view_at_init n.role (my_place n) (size n)
   pub does : DoesRest c.view n.walk c.flow
   pub carried : OnlyCarried n.walk
+  pub shaped : StaysShaped job.names n.walk
   pub placed : has_place n.comm n.me ≡ true
   pub left : ℕ
   pub within : IsWithin n.walk left
@@ -92,14 +94,14 @@ pub record WalksAlong (most : ℕ) (c : Standing) (n : Node) : Type 0 where
 
 -- It stands where the node stands. No epoch has begun before its first join, and one has behind it. The call that it is in has a
 -- number already, and still stands before it in the walk.
-abbrev pub StandsAs : Stage → Standing → Node → Type 0
-StandsAs stage.Begins c n = (n.stage ≡ node.Begins) × IsStill c n × OwnAreUpTo n.epoch n × (n.epoch ≡ 0)
-StandsAs (stage.Joining phase) c n = (n.stage ≡ node.Joining (phase_of phase)) × IsStill c n × HasVoted n phase
-StandsAs stage.Arrived c n = (n.stage ≡ node.Arrived) × IsStill c n × OwnAreUpTo n.epoch n × (0 < n.epoch) × (n.calls ≡ 0)
-StandsAs stage.Walking c n = (n.stage ≡ node.Walking) × WalksAlong 20000 c n × OwnAreUpTo n.epoch n × (0 < n.epoch)
-StandsAs stage.Gathering c n = (n.stage ≡ node.Calling node.Gathering) × WalksAlong 20001 c n × OwnAreUpTo n.epoch n × (0 < n.epoch) × (at_of n.walk ≡ at.Outward)
-StandsAs stage.Failed c n = (n.stage ≡ node.Failed) × IsStill c n × OwnAreUpTo n.epoch n × (0 < n.epoch)
-StandsAs stage.Over c n = n.stage ≡ node.Over
+abbrev pub StandsAs : Job → Stage → Standing → Node → Type 0
+StandsAs job stage.Begins c n = (n.stage ≡ node.Begins) × IsStill c n × OwnAreUpTo n.epoch n × (n.epoch ≡ 0)
+StandsAs job (stage.Joining phase) c n = (n.stage ≡ node.Joining (phase_of phase)) × IsStill c n × HasVoted n phase
+StandsAs job stage.Arrived c n = (n.stage ≡ node.Arrived) × IsStill c n × OwnAreUpTo n.epoch n × (0 < n.epoch) × (n.calls ≡ 0)
+StandsAs job stage.Walking c n = (n.stage ≡ node.Walking) × WalksAlong job 20000 c n × OwnAreUpTo n.epoch n × (0 < n.epoch)
+StandsAs job stage.Gathering c n = (n.stage ≡ node.Calling node.Gathering) × WalksAlong job 20001 c n × OwnAreUpTo n.epoch n × (0 < n.epoch) × (at_of n.walk ≡ at.Outward)
+StandsAs job stage.Failed c n = (n.stage ≡ node.Failed) × IsStill c n × OwnAreUpTo n.epoch n × (0 < n.epoch)
+StandsAs job stage.Over c n = n.stage ≡ node.Over
 
 -- it is this node of a job, in which no group is created
 pub record IsNodeOf (job : Job) (c : Standing) (n : Node) : Type 0 where
@@ -114,7 +116,7 @@ pub record IsNodeOf (job : Job) (c : Standing) (n : Node) : Type 0 where
   pub bare : (g : ℕ) → (n.groups g).created ≡ false
   pub is_flow : IsFlowOf job c.flow
   pub knows : IsInboxOf n c.inbox
-  pub stands : StandsAs c.stage c n
+  pub stands : StandsAs job c.stage c n
 
 -- ---- what its steps rest on
 

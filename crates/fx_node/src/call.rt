@@ -7,23 +7,24 @@ ghost use Rattle.fx_coll.specs.Machine.{StandsFor, values_in};
 ghost use Rattle.fx_comm.specs.Seats.{place_in};
 ghost use Rattle.fx_base.specs.declared.names.Proc.{Proc};
 ghost use Rattle.fx_fleet.specs.Runs.{job_setup};
-ghost use Rattle.fx_flow.specs.Flowing.{TellsNeed, WantsNumber, next_of};
+ghost use Rattle.fx_flow.specs.Flowing.{TellsNeed, WantsElements, WantsNumber, next_of};
 ghost use Rattle.fx_inbox.specs.Keeping.{part_from};
 ghost use Rattle.fx_link.specs.declared.message.Message.{Message};
 ghost use Rattle.fx_link.specs.declared.message.Message.TheVariants as message;
-ghost use Rattle.fx_machine.specs.Gathering.{gathered, passes, returns_number};
+ghost use Rattle.fx_machine.specs.Gathering.{due_from, gathered, passes, returns_elements, returns_number, source_of, target_of};
 ghost use Rattle.fx_machine.specs.Numbers.{call_no, epoch_no};
 ghost use Rattle.fx_machine.specs.Nodes as defined;
 ghost use Rattle.fx_machine.specs.Reading as reading;
 ghost use Rattle.fx_machine.specs.Steps.{in_walk, next};
 ghost use Rattle.fx_machine.specs.Waits.{Error, ByLeaving, ByLoss, returns_error};
-ghost use Rattle.fx_node.specs.Asking.{HasKind, HaveKind, IsFresh, IsTold, due_in, is_carried, part_in, taken, to_seats};
+ghost use Rattle.fx_node.specs.Asking.{HasKind, HaveKind, IsFresh, IsTold, is_carried, part_in, share_of, taken, to_seats};
 ghost use Rattle.fx_node.specs.Standing.{ComesTo, IsNodeOf, processes};
 ghost use Rattle.fx_node.specs.Stepping.{Steps};
 ghost use Rattle.fx_node.specs.declared.node.Moved.TheVariants as Moved;
 ghost use Rattle.fx_node.specs.declared.stage.Stage.TheVariants as Stage;
 ghost use Rattle.fx_script.specs.declared.job.Job.{Job};
-ghost use Rattle.fx_walk.specs.Walk.{Asks, Reply, TextPlace, Walk};
+ghost use Rattle.fx_value.specs.Shape.{Fits};
+ghost use Rattle.fx_walk.specs.Walk.{Asks, Elements, Reply, TextPlace, Walk};
 ghost use Rattle.fx_walk.specs.State.{State};
 ghost use Rattle.fx_walk.specs.declared.action.At.TheVariants as at;
 ghost use Rattle.fx_walk.specs.declared.wanted.Wanted.{Wanted as Asked};
@@ -36,6 +37,7 @@ use fx_coll::{CollPoll, Gather, Part};
 use fx_flow::{At, Wanted};
 use fx_item::{Item, Items};
 use fx_link::Message;
+use std::alloc::Global;
 
 impl Node {
     /// The body asks for something: it enters the call.
@@ -50,6 +52,7 @@ impl Node {
         match self.flow.wanted(&self.view)? {
             Wanted::Barrier => self.enter_barrier(sends, items),
             Wanted::Reduce(op, number) => self.enter_reduction(op, number, sends, items),
+            Wanted::Shift(by, elements) => self.enter_shift(by, elements, sends, items),
             _ => Ok(Moved::Quiet),
         }
     }
@@ -71,7 +74,7 @@ impl Node {
             e: self.epoch,
             k: CallNo(next),
         })?;
-        self.enter(next, Elems::new(self.alloc), sends)?;
+        self.enter(next, &Elems::new(self.alloc), None, sends)?;
         Ok(Moved::Acted)
     }
 
@@ -102,38 +105,84 @@ impl Node {
         })?;
         let mut values = Elems::new(self.alloc);
         values.push(number)?;
-        self.enter(next, values, sends)?;
+        self.enter(next, &values, None, sends)?;
         Ok(Moved::Acted)
     }
 
-    // Enters the next call, with the part that goes to each other place.
-    fn enter(&mut self, next: u32, elems: Elems, sends: &mut Outbox) -> Result<(), NoMemory>
-        ensures enters { OnOk result (ComesTo self.old next self.new.inbox) }
-        ensures same { OnOk result (self.new ≡ record self.old { calls = next; stage = Stage.Gathering; inbox = self.new.inbox }) }
-        ensures sends { OnOk result (sends.new ≡ sends.old ++ to_seats self.old.me (message.Part (epoch_no self.old.epoch) (call_no next) elems) self.old.comm) }
+    // Enters a shift by so many places with its own elements.
+    fn enter_shift(
+        &mut self,
+        by: u8,
+        elements: Elems,
+        sends: &mut Outbox,
+        items: &mut Items,
+    ) -> Result<Moved, NoMemory>
+        requires walking { self.old.stage ≡ Stage.Walking }
+        ensures steps { IfOk result (λ moved. (job : Job) (n : defined.Node) (place : TextPlace) (state : State) (rest : Reply → Walk) → IsNodeOf job self.old n
+            → n.walk ≡ Asks place (wanted.Shift by elements) state rest
+            → Steps job n (in_walk (job_setup job) n (Asks place (wanted.Shift by elements) state rest)) moved self.new sends.old sends.new items.old items.new) }
         ensures to_processes { OnOk result (All (λ x. x.0.0 < processes self.old) sends.old → All (λ x. x.0.0 < processes self.old) sends.new) }
         ensures of_all { processes self.new ≡ processes self.old }
     {
-        let part = Message::Part {
+        let Some(next) = self.calls.checked_add(1) else {
+            return Ok(Moved::Quiet);
+        };
+        let Some(own) = self.comm.place_of(self.me) else {
+            return Ok(Moved::Quiet);
+        };
+        let target = target_of(self.comm.size(), by, own);
+        items.push(Item::Shift {
+            p: self.me,
             e: self.epoch,
             k: CallNo(next),
-            elems,
-        };
-        self.send_to_places(&part, sends)?;
+            d: by,
+            list: elements.copy()?,
+        })?;
+        self.enter(next, &elements, Some(target), sends)?;
+        Ok(Moved::Acted)
+    }
+
+    // Enters the next call, with the values that go to each other place, or to one only.
+    fn enter(
+        &mut self,
+        next: u32,
+        values: &Elems,
+        only: Option<u8>,
+        sends: &mut Outbox,
+    ) -> Result<(), NoMemory>
+        ensures enters { OnOk result (ComesTo self.old next self.new.inbox) }
+        ensures same { OnOk result (self.new ≡ record self.old { calls = next; stage = Stage.Gathering; inbox = self.new.inbox }) }
+        ensures sends { OnOk result (sends.new ≡ sends.old ++ to_seats self.old.me (λ x. message.Part (epoch_no self.old.epoch) (call_no next) (share_of only values.now x)) 0 self.old.comm) }
+        ensures to_processes { OnOk result (All (λ x. x.0.0 < processes self.old) sends.old → All (λ x. x.0.0 < processes self.old) sends.new) }
+        ensures of_all { processes self.new ≡ processes self.old }
+    {
+        self.send_to_places(CallNo(next), values, only, sends)?;
         self.calls = next;
         self.inbox.forget(self.epoch, CallNo(next));
         self.stage = Stage::Gathering;
         Ok(())
     }
 
-    // Sends a message to each other place.
-    fn send_to_places(&self, message: &Message, sends: &mut Outbox) -> Result<(), NoMemory>
-        ensures sends { OnOk result (sends.new ≡ sends.old ++ to_seats self.now.me message.now self.now.comm) }
+    // Sends to each other place its part of a call.
+    fn send_to_places(
+        &self,
+        call: CallNo,
+        values: &Elems,
+        only: Option<u8>,
+        sends: &mut Outbox,
+    ) -> Result<(), NoMemory>
+        ensures sends { OnOk result (sends.new ≡ sends.old ++ to_seats self.now.me (λ x. message.Part (epoch_no self.now.epoch) call (share_of only values.now x)) 0 self.now.comm) }
         ensures to_processes { OnOk result (All (λ x. x.0.0 < processes self.now) sends.old → All (λ x. x.0.0 < processes self.now) sends.new) }
     {
-        for seat in self.comm.seats().as_slice() {
+        for (place, seat) in self.comm.seats().as_slice().iter().enumerate() {
             if seat.1 != self.me {
-                sends.push((seat.1, message.copy()?))?;
+                let elems = share_of(self.alloc, only, values, place)?;
+                let part = Message::Part {
+                    e: self.epoch,
+                    k: call,
+                    elems,
+                };
+                sends.push((seat.1, part))?;
             }
         }
         Ok(())
@@ -178,7 +227,7 @@ impl Node {
         let wanted = self.flow.wanted(&self.view)?;
         let known = self.known_of(place, &wanted)?;
         match known.poll() {
-            CollPoll::Done => self.finish(&wanted, &known, items),
+            CollPoll::Done => self.finish(place, &wanted, &known, items),
             CollPoll::Failed(lost) => self.fail(Place(lost), items),
             CollPoll::Revoked(left) => self.revoke(Place(left), items),
             CollPoll::NotYet => Ok(Moved::Quiet),
@@ -188,6 +237,7 @@ impl Node {
     // All parts are there: the call returns.
     fn finish(
         &mut self,
+        own: Place,
         wanted: &Wanted,
         known: &Gather,
         items: &mut Items,
@@ -197,6 +247,9 @@ impl Node {
         requires need { TellsNeed self.old.flow wanted.now }
         requires kind { HaveKind wanted.now known.now }
         requires whole { IsWhole known.now }
+        requires there { place_in self.old.comm self.old.me ≡ Some own.0 }
+        requires below { own.0 < length self.old.comm }
+        requires many { length known.now ≡ length self.old.comm }
         ensures returns { IfOk result (λ moved. (job : Job) (n : defined.Node) (sends : List (Proc × Message)) (place : TextPlace) (state : State) (rest : Reply → Walk) → IsNodeOf job self.old n
             → n.walk ≡ Asks place wanted.now state rest → StandsFor known.now n wanted.now
             → Steps job n (gathered n wanted.now rest) moved self.new sends sends items.old items.new) }
@@ -205,6 +258,10 @@ impl Node {
         match wanted {
             Wanted::Barrier => self.pass(items),
             Wanted::Reduce(op, _) => self.give_number(known.folded(*op), items),
+            Wanted::Shift(by, _) => {
+                let source = source_of(self.comm.size(), *by, own);
+                self.give_elements(known.part_of(source), items)
+            }
             _ => Ok(Moved::Quiet),
         }
     }
@@ -244,6 +301,27 @@ impl Node {
             n: number,
         })?;
         self.flow.give_counter(number);
+        self.stage = Stage::Walking;
+        Ok(Moved::Acted)
+    }
+
+    // The call returns the elements of a part.
+    fn give_elements(&mut self, part: &Part, items: &mut Items) -> Result<Moved, NoMemory>
+        requires gathering { self.old.stage ≡ Stage.Gathering }
+        requires need { WantsElements self.old.flow }
+        ensures gives { IfOk result (λ moved. (job : Job) (n : defined.Node) (sends : List (Proc × Message)) (place : TextPlace) (w : Asked) (state : State) (rest : Reply → Walk) → IsNodeOf job self.old n
+            → n.walk ≡ Asks place w state rest → Fits w (Elements (values_in part.now))
+            → Steps job n (Some (returns_elements n rest (values_in part.now))) moved self.new sends sends items.old items.new) }
+        ensures of_all { processes self.new ≡ processes self.old }
+    {
+        let elements = values_in(self.alloc, part)?;
+        items.push(Item::Shifted {
+            p: self.me,
+            e: self.epoch,
+            k: CallNo(self.calls),
+            list: elements.copy()?,
+        })?;
+        self.flow.give_array(elements);
         self.stage = Stage::Walking;
         Ok(Moved::Acted)
     }
@@ -293,40 +371,50 @@ impl Node {
         ensures stands { IfOk result (λ known. (job : Job) (n : defined.Node) → IsNodeOf job self.now n → is_carried wanted.now ≡ true → StandsFor known n wanted.now) }
     {
         let size = self.comm.size();
-        let mut known = Gather::new(self.alloc, size, place.0, own_part(wanted))?;
+        let own = own_part(wanted)?;
+        let mut known = Gather::new(self.alloc, size, place.0, own)?;
         for one in 0..size {
-            self.learn(Place(one), wanted, &mut known);
+            self.learn(place, Place(one), wanted, &mut known)?;
         }
         Ok(known)
     }
 
-    // Learns of one place what came of it.
-    fn learn(&self, one: Place, wanted: &Wanted, known: &mut Gather)
+    // Learns of one place what came of it, by its own place.
+    fn learn(
+        &self,
+        own: Place,
+        one: Place,
+        wanted: &Wanted,
+        known: &mut Gather,
+    ) -> Result<(), NoMemory>
+        requires there { place_in self.now.comm self.now.me ≡ Some own.0 }
+        requires inside { own.0 < length self.now.comm }
         requires below { one.0 < length self.now.comm }
         requires all { length known.old ≡ length self.now.comm }
         ensures others { (x : ℕ) → x ≢ one.0 → known_at known.new x ≡ known_at known.old x }
         ensures kind { HaveKind wanted.now known.old → HaveKind wanted.now known.new }
-        ensures this { (job : Job) (n : defined.Node) → IsNodeOf job self.now n → is_carried wanted.now ≡ true → IsFresh n wanted.now (known_at known.old one.0) one.0
-            → IsTold n wanted.now (known_at known.new one.0) one.0 }
+        ensures this { OnOk result ((job : Job) (n : defined.Node) → IsNodeOf job self.now n → is_carried wanted.now ≡ true → IsFresh n wanted.now (known_at known.old one.0) one.0
+            → IsTold n wanted.now (known_at known.new one.0) one.0) }
         ensures keeps { length known.new ≡ length known.old }
     {
         let who = self.comm.proc_at(one).0;
-        give_if(known, one, self.heard(who, wanted));
+        let due = due(wanted, self.comm.size(), own, one);
+        let part = self.heard(who, wanted, due)?;
+        give_if(known, one, part);
         lose_if(known, one, self.inbox.is_lost(who));
         leave_if(known, one, self.has_left(who));
+        Ok(())
     }
 
-    // The part that was heard of a process.
-    fn heard(&self, who: u8, wanted: &Wanted) -> Option<Part>
-        ensures kind { HasKind wanted.now result }
-        ensures read { (job : Job) (n : defined.Node) → IsNodeOf job self.now n → option_map values_in result ≡ part_from n (due_in wanted.now) who }
+    // The part of so many numbers that was heard of a process. As many are due from some place.
+    fn heard(&self, who: u8, wanted: &Wanted, due: usize) -> Result<Option<Part>, NoMemory>
+        ensures kind { IfOk result (λ part. HasKind wanted.now part) }
+        ensures read { IfOk result (λ part. (job : Job) (n : defined.Node) (places own one : ℕ) → IsNodeOf job self.now n → due ≡ due_from wanted.now places own one
+            → option_map values_in part ≡ part_from n due who) }
     {
-        match self
-            .inbox
-            .part_of(self.epoch, CallNo(self.calls), who, due(wanted))
-        {
-            Some(values) => Some(as_part(wanted, values)),
-            None => None,
+        match self.inbox.part_of(self.epoch, CallNo(self.calls), who, due) {
+            Some(values) => Ok(Some(as_part(wanted, values)?)),
+            None => Ok(None),
         }
     }
 
@@ -343,35 +431,97 @@ impl Node {
     }
 }
 
-// One's own part.
-fn own_part(wanted: &Wanted) -> Part
-    ensures { result ≡ part_in wanted.now }
+// The values that go to a place: to each the same, or to one only, and none to the others.
+fn share_of(
+    alloc: Global,
+    only: Option<u8>,
+    values: &Elems,
+    place: usize,
+) -> Result<Elems, NoMemory>
+    ensures { IfOk result (λ share. share ≡ share_of only values.now place) }
 {
-    match wanted {
-        Wanted::Reduce(_, number) => Part::Number(*number),
-        _ => Part::Empty,
+    match only {
+        None => values.copy(),
+        Some(target) => {
+            if place == usize::from(target) {
+                values.copy()
+            } else {
+                Ok(Elems::new(alloc))
+            }
+        }
     }
 }
 
-// How many numbers are due from each other place.
-fn due(wanted: &Wanted) -> usize
-    ensures { result ≡ due_in wanted.now }
+// The place so many further on than one's own, among so many.
+fn target_of(places: u8, by: u8, own: Place) -> u8
+    requires { own.0 < places }
+    ensures { result ≡ target_of places by own.0 }
+{
+    ((u16::from(own.0) + u16::from(by)) % u16::from(places)) as u8
+}
+
+// The place from which one's own is so many further on, among so many.
+fn source_of(places: u8, by: u8, own: Place) -> u8
+    requires { own.0 < places }
+    ensures is { result ≡ source_of places by own.0 }
+    ensures below { result < places }
+{
+    let places = u16::from(places);
+    ((u16::from(own.0) + (places - u16::from(by) % places)) % places) as u8
+}
+
+// One's own part.
+fn own_part(wanted: &Wanted) -> Result<Part, NoMemory>
+    ensures { IfOk result (λ part. part ≡ part_in wanted.now) }
+{
+    match wanted {
+        Wanted::Reduce(_, number) => Ok(Part::Number(*number)),
+        Wanted::Shift(_, elements) => Ok(Part::Elems(elements.copy()?)),
+        _ => Ok(Part::Empty),
+    }
+}
+
+// How many numbers are due from a place to one's own, among so many.
+fn due(wanted: &Wanted, places: u8, own: Place, one: Place) -> usize
+    requires { own.0 < places }
+    ensures { result ≡ due_from wanted.now places own.0 one.0 }
 {
     match wanted {
         Wanted::Reduce(..) => 1,
+        Wanted::Shift(by, elements) => {
+            if one.0 == source_of(places, *by, own) {
+                elements.len()
+            } else {
+                0
+            }
+        }
         _ => 0,
     }
 }
 
 // The part of as many values as are due.
-fn as_part(wanted: &Wanted, values: &Elems) -> Part
-    ensures kind { HasKind wanted.now (Some result) }
-    ensures same { length values.now ≡ due_in wanted.now → values_in result ≡ values.now }
+fn as_part(wanted: &Wanted, values: &Elems) -> Result<Part, NoMemory>
+    ensures kind { IfOk result (λ part. HasKind wanted.now (Some part)) }
+    ensures same { IfOk result (λ part. (places own one : ℕ) → length values.now ≡ due_from wanted.now places own one → values_in part ≡ values.now) }
 {
     match wanted {
-        Wanted::Reduce(..) => Part::Number(first_number(values)),
-        _ => Part::Empty,
+        Wanted::Reduce(..) => Ok(Part::Number(first_number(values))),
+        Wanted::Shift(..) => Ok(Part::Elems(values.copy()?)),
+        _ => Ok(Part::Empty),
     }
+}
+
+// The values of a part.
+fn values_in(alloc: Global, part: &Part) -> Result<Elems, NoMemory>
+    ensures { IfOk result (λ values. values ≡ values_in part.now) }
+{
+    let mut values = Elems::new(alloc);
+    match part {
+        Part::Empty => {}
+        Part::Number(number) => values.push(*number)?,
+        Part::Elems(elements) => return elements.copy(),
+    }
+    Ok(values)
 }
 
 // The first of these numbers, 0 where there is none.

@@ -35,7 +35,7 @@ use fx_base::{Bytes, CallNo, Elems, Epoch, NoMemory, Place, Proc, ProcSet, Role,
 use fx_check::Accepted;
 use fx_comm::{Comm, first, repair};
 use fx_flow::{At, Called, Flow, Printed, View};
-use fx_inbox::{Inbox, Phase, Poll, is_join, seat_of};
+use fx_inbox::{Ballot, Inbox, Phase, Poll, is_join, seat_of};
 use fx_item::{Item, Items};
 use fx_link::{Message, Slot, Slots};
 use std::alloc::Global;
@@ -299,7 +299,8 @@ impl Node {
         let Stage::Joining(phase) = &mut self.stage else {
             return Ok(Poll::NotYet);
         };
-        self.inbox.turn(self.epoch, self.present.as_slice(), phase)
+        let ballot = Ballot::of_next(self.epoch, self.present.as_slice());
+        self.inbox.turn(&ballot, phase)
     }
 
     // Says its estimate, of the round of its own seat.
@@ -465,6 +466,8 @@ impl Node {
             → items.new ≡ items.old ++ flat_map (called_items self.old.me self.old.epoch) (callbacks_at_init (facts_of job) self.old.role self.old.view.rank self.old.view.size (state_of self.old.flow))) }
         ensures begins { OnOk result ((job : Job) → IsFlowOf job self.old.flow → (view : Sight)
             → DoesRest view (job_walk job view (body_start (facts_of job) self.old.role self.old.view.rank self.old.view.size (state_of self.old.flow))) self.new.flow) }
+        ensures keeps { OnOk result ((job : Job) → IsFlowOf job self.old.flow
+            → state_of self.new.flow ≡ body_start (facts_of job) self.old.role self.old.view.rank self.old.view.size (state_of self.old.flow)) }
         ensures same_job { (job : Job) → IsFlowOf job self.old.flow → IsFlowOf job self.new.flow }
         ensures same { self.new ≡ record self.old { flow = self.new.flow } }
     {
@@ -481,6 +484,7 @@ impl Node {
             → items.new ≡ items.old ++ flat_map (called_items self.old.me self.old.epoch) (callback_run (facts_of job) self.old.view (state_of self.old.flow))) }
         ensures begins { OnOk result ((job : Job) → IsFlowOf job self.old.flow → IsAtBegin self.old.flow → (view : Sight)
             → DoesRest view (job_walk job view (state_behind_callbacks (facts_of job) self.old.view (state_of self.old.flow))) self.new.flow) }
+        ensures leaves { OnOk result ((job : Job) → IsFlowOf job self.old.flow → state_of self.new.flow ≡ state_behind_callbacks (facts_of job) self.old.view (state_of self.old.flow)) }
         ensures same_job { (job : Job) → IsFlowOf job self.old.flow → IsFlowOf job self.new.flow }
         ensures same { self.new ≡ record self.old { flow = self.new.flow } }
     {

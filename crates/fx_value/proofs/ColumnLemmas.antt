@@ -7,7 +7,7 @@ use Rattle.fx_walk.specs.Values.{Sight}
 use Rattle.fx_value.specs.declared.formula.Term.{Term}
 use Rattle.fx_value.specs.declared.formula.Term.TheVariants as term
 use Rattle.fx_value.specs.declared.formula.Term.TheOpen.{Term-F}
-use Rattle.fx_value.specs.Columns.{differences, numbers_from, padded, paired, products, sums}
+use Rattle.fx_value.specs.Columns.{differences, numbers_from, padded, products, sums}
 use Rattle.fx_value.specs.Terms.{term_value, term_values}
 use Rattle.fx_value.proofs.TermLemmas.{valued}
 

@@ -63,19 +63,25 @@ zeroed_set [] slot value = refl
 zeroed_set (n ∷ ns) zero value = refl
 zeroed_set (n ∷ ns) (suc slot) value = ap (λ (l : List ℤ). pos 0 ∷ l) (zeroed_set ns slot value)
 
+-- numbers that are written keep the zeros
+pub emptied_counter : (state : State) (slot : ℕ) (value : ℤ) → emptied (record state { counters = slice_set state.counters slot value }) ≡ emptied state
+emptied_counter state slot value = ap (λ (l : List ℤ). bare l (map zeroed state.arrays)) (zeroed_set state.counters slot value)
+
 pub shaped_counter : (names : List Decl) (state : State) (slot : ℕ) (value : ℤ) → IsShaped names state → IsShaped names (record state { counters = slice_set state.counters slot value })
-shaped_counter names state slot value shaped =
-    ap (λ (l : List ℤ). bare l (map zeroed state.arrays)) (zeroed_set state.counters slot value) ∙ shaped
+shaped_counter names state slot value shaped = emptied_counter state slot value ∙ shaped
 
 all_zeroed_set : (arrays : List (List ℤ)) (slot : ℕ) (elements : List ℤ) → length elements ≡ length (get_or arrays slot []) → map zeroed (slice_set arrays slot elements) ≡ map zeroed arrays
 all_zeroed_set [] slot elements same = refl
 all_zeroed_set (array ∷ arrays) zero elements same = ap (λ (l : List ℤ). l ∷ map zeroed arrays) (zeroed_alike elements array same)
 all_zeroed_set (array ∷ arrays) (suc slot) elements same = ap (λ (l : List (List ℤ)). zeroed array ∷ l) (all_zeroed_set arrays slot elements same)
 
+pub emptied_array : (state : State) (slot : ℕ) (elements : List ℤ) → length elements ≡ length (get_or state.arrays slot [])
+    → emptied (record state { arrays = slice_set state.arrays slot elements }) ≡ emptied state
+emptied_array state slot elements same = ap (λ (l : List (List ℤ)). bare (zeroed state.counters) l) (all_zeroed_set state.arrays slot elements same)
+
 pub shaped_array : (names : List Decl) (state : State) (slot : ℕ) (elements : List ℤ) → length elements ≡ length (get_or state.arrays slot []) → IsShaped names state
     → IsShaped names (record state { arrays = slice_set state.arrays slot elements })
-shaped_array names state slot elements same shaped =
-    ap (λ (l : List (List ℤ)). bare (zeroed state.counters) l) (all_zeroed_set state.arrays slot elements same) ∙ shaped
+shaped_array names state slot elements same shaped = emptied_array state slot elements same ∙ shaped
 
 pub shaped_callback : (names : List Decl) (state : State) (name : List ℕ) → IsShaped names state → IsShaped names (with_callback state name)
 shaped_callback names state name shaped = shaped

@@ -1,5 +1,5 @@
 -- Loops that write an array from its front on.
-use Rattle.std.proofs.Common.{◌≡◌, ℕ, zero, suc, ◌+◌, ◌<◌, List, [], ◌∷◌, ◌++◌, length, get_or, set, take, drop, refl, ap, ◌∙◌, arith, add-one}
+use Rattle.std.proofs.Common.{◌≡◌, ℕ, zero, suc, ◌+◌, ◌<◌, List, [], ◌∷◌, ◌++◌, length, set, take, drop, refl, ap, ◌∙◌, arith, add-one}
 use Rattle.std.specs.Prelude.{ℤ, pos}
 use Rattle.fx_value.specs.Shape.{zeroed}
 

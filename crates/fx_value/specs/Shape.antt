@@ -1,11 +1,14 @@
--- States of one shape: as many counters, and arrays as long, as a job declares.
-use Rattle.std.specs.Prelude.{◌≡◌, refl, ℕ, ℤ, pos, List, [], ◌∷◌, map, codes}
+-- States of one shape: as many counters, and arrays as long, as a job declares; and walks that keep it.
+use Rattle.std.specs.Prelude.{◌≡◌, refl, ℕ, ℤ, pos, List, [], ◌∷◌, map, length, codes}
 use Rattle.std.specs.Coded.{Coded, code_by, coded×, coded_list, coded_ℕ, coded_ℤ}
 use Rattle.fx_base.specs.declared.names.Role.{Role}
 use Rattle.fx_base.specs.declared.names.Role.TheVariants as role
 use Rattle.fx_script.specs.declared.job.Decl.{Decl}
 use Rattle.fx_script.specs.declared.job.Decl.TheVariants as decl
+use Rattle.fx_walk.specs.declared.wanted.Wanted.{Wanted}
+use Rattle.fx_walk.specs.declared.wanted.Wanted.TheVariants as wanted
 use Rattle.fx_walk.specs.State.{State, zero_counters, zero_arrays}
+use Rattle.fx_walk.specs.Walk.{Given, Elements, Reply, Walk, Ends, Passes, Prints, Asks}
 
 -- a state as the triple of its parts
 abbrev pub state_code : Coded State
@@ -36,6 +39,20 @@ abbrev pub kept_by : Role → State → State
 kept_by role.Survivor state = record state { counters = zeroed state.counters }
 kept_by role.Initial state = emptied state
 kept_by role.Recovered state = emptied state
+
+-- ---- walks
+
+-- a shift is given as many elements as it gives away; whatever else is given fits
+abbrev pub Fits : Wanted → Given → Type 0
+Fits (wanted.Shift by own) (Elements elements) = length elements ≡ length own
+Fits other given = Unit {0}
+
+-- wherever the walk stops, its state has the declared shape, so long as what it is given fits
+abbrev pub StaysShaped : List Decl → Walk → Type 0
+StaysShaped names (Ends state) = IsShaped names state
+StaysShaped names (Passes rest) = StaysShaped names rest
+StaysShaped names (Prints printed rest) = StaysShaped names rest
+StaysShaped names (Asks place wanted state rest) = IsShaped names state × ((reply : Reply) → Fits wanted reply.given → StaysShaped names (rest reply))
 
 -- ---- rows
 

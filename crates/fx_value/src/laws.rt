@@ -3,10 +3,14 @@
 ghost use Rattle.std.specs.Prelude.{◌≡◌, ℕ, ℤ, List, [], length, get_or, slice_set};
 ghost use Rattle.fx_base.specs.declared.names.Role.{Role};
 ghost use Rattle.fx_script.specs.declared.expr.Expr.{Expr};
+ghost use Rattle.fx_script.specs.declared.job.Job.{Job};
 ghost use Rattle.fx_check.specs.Facts.{Facts};
+ghost use Rattle.fx_check.specs.Parts.{KeepsByParts};
+ghost use Rattle.fx_walk.specs.declared.action.View.{View};
+ghost use Rattle.fx_walk.specs.InStep.{job_walk};
 ghost use Rattle.fx_walk.specs.State.{State, at_init, with_callback, zero_arrays};
 ghost use Rattle.fx_walk.specs.Values.{Sight, value_of, values_from};
-ghost use Rattle.fx_value.specs.Shape.{IsShaped, blank_of};
+ghost use Rattle.fx_value.specs.Shape.{IsShaped, StaysShaped, blank_of};
 ghost use Rattle.fx_value.specs.Terms.{term_of, term_value, term_values};
 
 /// A formula has the value of its expression, and at each index of an array too.
@@ -24,4 +28,11 @@ pub fn states_keep_their_shape()
     ensures callback { (f : Facts) (state : State) (name : List ℕ) → IsShaped f.names state → IsShaped f.names (with_callback state name) }
     ensures init { (f : Facts) (role : Role) (state : State) → IsShaped f.names state → IsShaped f.names (at_init f role state) }
     ensures lengths { (f : Facts) (state : State) (slot : ℕ) → IsShaped f.names state → length (get_or state.arrays slot []) ≡ length (get_or (zero_arrays f.names) slot []) }
+{}
+
+/// The walk of an accepted job's body that begins in a state of the declared shape has one wherever it
+/// stops, if each shift is given as many elements as it gives away: source and target of a shift are
+/// as long as each other.
+pub fn walks_keep_the_shape()
+    ensures { (job : Job) (state : State) → KeepsByParts job → IsShaped job.names state → (view : View) → StaysShaped job.names (job_walk job view state) }
 {}

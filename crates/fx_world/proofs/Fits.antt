@@ -17,12 +17,12 @@ use Rattle.fx_link.specs.declared.slot.Slot.{Slot}
 use Rattle.fx_link.specs.declared.slot.Slot.TheVariants as slot
 use Rattle.fx_machine.specs.Asking.{asked, part}
 use Rattle.fx_machine.specs.Calls.{in_asked_call, in_call}
-use Rattle.fx_machine.specs.Gathering.{are_gathered, gathering_error, passes, returns_number, total}
+use Rattle.fx_machine.specs.Gathering.{are_gathered, gathering_error, numbers_of, passes, returns_elements, returns_number, source_of, target_of, total}
 use Rattle.fx_machine.specs.Waits.{Error, ByLeaving, ByLoss, returns_error}
 use Rattle.fx_machine.specs.Ballots.{arrived, decides_epoch, ends, is_end, joined, joins, may_join, repairs, turned, voters}
 use Rattle.fx_machine.specs.Messages.{known_message, known_text, message_of, packed_of, shares_of, wire_text}
 use Rattle.fx_machine.specs.Nodes as node
-use Rattle.fx_machine.specs.Nodes.{Node, Act, members, to_others}
+use Rattle.fx_machine.specs.Nodes.{Node, Act, members, my_place, size, to_others}
 use Rattle.fx_machine.specs.Reading.{is_join, next_ballot, turn_in}
 use Rattle.fx_machine.specs.Setup.{Setup}
 use Rattle.fx_machine.specs.Steps.{next, next_at, in_arrival, in_walk, inits, may_help_out}
@@ -86,22 +86,23 @@ arrival_fits s n =
     helps true = joins_fit slot.Spare n
     helps false = tt
 
--- one text to each other place
-to_each : (me : ℕ) (t : Text) → wire_text (message_of t) ≡ t → (places : List (ℕ × ℕ))
-    → AllFit (flat_map (λ (place : ℕ × ℕ). if place.1 == me then [] else map (λ (t : Text). (place.1, t)) (t ∷ [])) places)
-to_each me t fit [] = tt
-to_each me t fit (p ∷ places) = one (p.1 == me) (to_each me t fit places)
+-- to each other place the text that is meant for it
+to_each : (me : ℕ) (meant : ℕ → Text) → ((x : ℕ) → wire_text (message_of (meant x)) ≡ meant x) → (places : List (ℕ × ℕ))
+    → AllFit (flat_map (λ (place : ℕ × ℕ). if place.1 == me then [] else map (λ (t : Text). (place.1, t)) (meant place.0 ∷ [])) places)
+to_each me meant fit [] = tt
+to_each me meant fit (p ∷ places) = one (p.1 == me) (to_each me meant fit places)
   where
-    one : (b : Bool) → AllFit (flat_map (λ (place : ℕ × ℕ). if place.1 == me then [] else map (λ (t : Text). (place.1, t)) (t ∷ [])) places)
-        → AllFit ((if b then [] else (p.1, t) ∷ []) ++ flat_map (λ (place : ℕ × ℕ). if place.1 == me then [] else map (λ (t : Text). (place.1, t)) (t ∷ [])) places)
+    one : (b : Bool) → AllFit (flat_map (λ (place : ℕ × ℕ). if place.1 == me then [] else map (λ (t : Text). (place.1, t)) (meant place.0 ∷ [])) places)
+        → AllFit ((if b then [] else (p.1, meant p.0) ∷ []) ++ flat_map (λ (place : ℕ × ℕ). if place.1 == me then [] else map (λ (t : Text). (place.1, t)) (meant place.0 ∷ [])) places)
     one true others = others
-    one false others = (fit, others)
+    one false others = (fit p.0, others)
 
 asked_fits : (s : Setup) (n : Node) (w : Wanted) (rest : Reply → Walk) → is_carried w ≡ true → ActFits (Some (asked s n rest w))
-asked_fits s n wanted.Barrier rest is = to_each n.me (part n []) refl (enumerate_from 0 (members n))
-asked_fits s n (wanted.Reduce op own) rest is = to_each n.me (part n (own ∷ [])) refl (enumerate_from 0 (members n))
+asked_fits s n wanted.Barrier rest is = to_each n.me (λ x. part n []) (λ x. refl) (enumerate_from 0 (members n))
+asked_fits s n (wanted.Reduce op own) rest is = to_each n.me (λ x. part n (own ∷ [])) (λ x. refl) (enumerate_from 0 (members n))
 asked_fits s n (wanted.Agree flag) rest is = absurd cc
-asked_fits s n (wanted.Shift by elements) rest is = absurd cc
+asked_fits s n (wanted.Shift by elements) rest is =
+    to_each n.me (λ x. part n (if x == target_of (size n) by (my_place n) then elements else [])) (λ x. refl) (enumerate_from 0 (members n))
 asked_fits s n (wanted.Group g start depth) rest is = absurd cc
 asked_fits s n (wanted.Attach g m) rest is = absurd cc
 asked_fits s n (wanted.Store g m piece) rest is = absurd cc
@@ -131,8 +132,15 @@ call_fits s n (wanted.Reduce op own) rest is = by (are_gathered n (wanted.Reduce
     by false None = tt
     by false (Some (ByLoss p)) = tt
     by false (Some (ByLeaving p)) = tt
+call_fits s n (wanted.Shift by elements) rest is = by_parts (are_gathered n (wanted.Shift by elements)) (gathering_error n (wanted.Shift by elements))
+  where
+    by_parts : (b : Bool) (e : Option Error)
+        → ActFits (if b then Some (returns_elements n rest (numbers_of n (wanted.Shift by elements) (source_of (size n) by (my_place n)))) else option_map (returns_error n) e)
+    by_parts true e = tt
+    by_parts false None = tt
+    by_parts false (Some (ByLoss p)) = tt
+    by_parts false (Some (ByLeaving p)) = tt
 call_fits s n (wanted.Agree flag) rest is = absurd cc
-call_fits s n (wanted.Shift by elements) rest is = absurd cc
 call_fits s n (wanted.Group g start depth) rest is = absurd cc
 call_fits s n (wanted.Attach g m) rest is = absurd cc
 call_fits s n (wanted.Store g m piece) rest is = absurd cc
@@ -151,18 +159,18 @@ gather_fits s n (Asks place w state rest) only = call_fits s n w rest only.0
 at : (s : Setup) (n : Node) {stage : node.Stage} → n.stage ≡ stage → ActFits (next_at s n stage) → ActFits (next s n)
 at s n e fits = subst (λ stage. ActFits (next_at s n stage)) (sym e) fits
 
-stage_fits : (s : Setup) (c : Standing) (n : Node) (at : Stage) → StandsAs at c n → ActFits (next s n)
-stage_fits s c n stage.Begins is = at s n is.0 (joins_fit slot.Start n)
-stage_fits s c n (stage.Joining phase) is = at s n is.0 (turn_fits s n (turn_in (next_ballot n) n (phase_of phase)))
-stage_fits s c n stage.Arrived is = at s n is.0 (arrival_fits s n)
-stage_fits s c n stage.Walking is = at s n is.0 (walk_fits s n n.walk is.1.carried)
-stage_fits s c n stage.Gathering is = at s n is.0 (gather_fits s n n.walk is.1.carried)
-stage_fits s c n stage.Failed is = at s n is.0 (joins_fit slot.Error n)
-stage_fits s c n stage.Over is = at s n is tt
+stage_fits : (s : Setup) (job : Job) (c : Standing) (n : Node) (at : Stage) → StandsAs job at c n → ActFits (next s n)
+stage_fits s job c n stage.Begins is = at s n is.0 (joins_fit slot.Start n)
+stage_fits s job c n (stage.Joining phase) is = at s n is.0 (turn_fits s n (turn_in (next_ballot n) n (phase_of phase)))
+stage_fits s job c n stage.Arrived is = at s n is.0 (arrival_fits s n)
+stage_fits s job c n stage.Walking is = at s n is.0 (walk_fits s n n.walk is.1.carried)
+stage_fits s job c n stage.Gathering is = at s n is.0 (gather_fits s n n.walk is.1.carried)
+stage_fits s job c n stage.Failed is = at s n is.0 (joins_fit slot.Error n)
+stage_fits s job c n stage.Over is = at s n is tt
 
 -- what a node of a job sends
 pub sends_fit : (s : Setup) (job : Job) (c : Standing) (n : Node) → IsNodeOf job c n → ActFits (next s n)
-sends_fit s job c n is = stage_fits s c n c.stage is.stands
+sends_fit s job c n is = stage_fits s job c n c.stage is.stands
 
 -- ---- a message is that of its text
 

@@ -1,9 +1,8 @@
-use Rattle.std.proofs.Common.{◌≡◌, ◌<◌, ◌^◌, ◌++◌, length, ap, drop, arith, rules, ◌∙◌, ◌+◌, List}
-use Rattle.std.specs.Prelude.{ℤ, pos, set}
+use Rattle.std.proofs.Common.{rules}
+use Rattle.std.specs.Prelude.{pos}
 use Rattle.std.specs.Int.{w64}
 use mir.Facts.{to_z-of_z}
-use mir.Val.{to_z, of_z, SFits}
-use Rattle.fx_value.specs.Columns.{numbers_from}
+use mir.Val.{SFits}
 use Rattle.fx_value.proofs.Numbered.{numbered_more}
 use Rattle.fx_value.proofs.column.number_all.Goals as goal
 

@@ -17,4 +17,4 @@ returns-clause-begins c = λ job n sends asks h.
     (subst (λ (s : Standing). place_in s.comm s.me ≡ Some c.args.place.0) now c.requires.there)
     c.size.ensures.size (sym (c.self-2.view_is ∙ walk.same))
     (record { ident = c.ident_at.ensures; count = c.size-2.ensures.size; warns = c.depleted.ensures })
-    (walk.same_job job) (walk.begins job) (walk.writes job) c.in_ok-push.ensures.ok
+    (walk.same_job job) (walk.begins job) (walk.keeps job) (walk.writes job) c.in_ok-push.ensures.ok

@@ -10,7 +10,7 @@ use Rattle.fx_node.proofs.node.Node.known_of.Goals as goal
 
 pub loop-one-init : goal.loop-one-init
 loop-one-init c =
-    let begins : c.in_ok-known.known ≡ begun c.size-size.result c.args.place.0 (part_in c.args.wanted.now) = rw c.own_part.ensures at c.in_ok-known.ensures.begins in
+    let begins : c.in_ok-known.known ≡ begun c.size-size.result c.args.place.0 (part_in c.args.wanted.now) = rw c.in_ok-own.ensures at c.in_ok-known.ensures.begins in
     let sized : c.size-size.result ≡ length c.args.self.now.comm = c.size-size.ensures.size ∙ ap (λ (s : Standing). length s.comm) c.self.view_is in
     record {
       many = c.in_ok-known.ensures.knows_each ∙ sized;
@@ -28,7 +28,7 @@ loop-one-preserved c =
       knowing = λ job n is carried.
           let many : size n ≡ length c.args.self.now.comm = ap (λ (l : List Seat). length l) is.comm in
           goes_knowing n c.args.wanted.now c.loop-one.one c.loop-one.known c.learn.new.known (omega (arith, many, sized, c.loop-one-test.true)) (c.loop-one.invariant.knowing job n is carried)
-          c.learn.ensures.others c.learn.ensures.keeps (c.learn.ensures.this job n is carried);
+          c.learn.ensures.others c.learn.ensures.keeps (c.in_ok-learn.ensures.this job n is carried);
       kind = c.learn.ensures.kind c.loop-one.invariant.kind;
     }
 

@@ -1,4 +1,4 @@
-use Rattle.std.proofs.Common.{◌≡◌, ◌∙◌, ap, sym, length, rules}
+use Rattle.std.proofs.Common.{◌∙◌, ap, sym, length, rules}
 use Rattle.std.specs.Int.{w64}
 use mir.Facts.{to_z-of_z}
 use mir.Val.{SFits}

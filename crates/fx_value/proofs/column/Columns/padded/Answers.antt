@@ -1,4 +1,4 @@
-use Rattle.std.proofs.Common.{◌≡◌, ◌∙◌, vec_len, length}
+use Rattle.std.proofs.Common.{◌∙◌, vec_len}
 use Rattle.fx_value.proofs.Numbered.{padded_past}
 use Rattle.fx_value.proofs.column.Columns.padded.Goals as goal
 

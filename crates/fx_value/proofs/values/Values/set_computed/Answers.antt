@@ -1,6 +1,5 @@
-use Rattle.std.proofs.Common.{◌≡◌, ◌∙◌, ap, get_or, List, []}
+use Rattle.std.proofs.Common.{◌∙◌, ap, get_or, List, []}
 use Rattle.std.specs.Prelude.{ℤ, slice_set}
-use Rattle.fx_walk.specs.State.{State}
 use Rattle.fx_walk.specs.Values.{sight}
 use Rattle.fx_value.specs.declared.formula.Term.{Term}
 use Rattle.fx_value.specs.Terms.{term_values}
