@@ -41,7 +41,6 @@ use Rattle.fx_losses.proofs.Shows.{phase_of, Shows, Truthful, up_parts}
 use Rattle.fx_losses.proofs.Tests.{some_slot}
 use Rattle.fx_calls.proofs.Hearings.{Polls, TrueText}
 use Rattle.fx_calls.proofs.Polled.{is_balloting, told_more, NodePolls, FirstReturn, Polled, Heeds}
-use Rattle.fx_ballot.specs.World.{may_leave}
 use Rattle.fx_calls.proofs.Linked.{Linked, Links}
 use Rattle.fx_machine.specs.Nodes.{to_others}
 use Rattle.fx_fleet.specs.World.{sent_to}
@@ -75,7 +74,7 @@ use Rattle.fx_ballot.specs.declared.heard.Heard.{Heard}
 use Rattle.fx_ballot.specs.Laws.{estimate_of, past}
 use Rattle.fx_ballot.specs.Names.{seat_at}
 use Rattle.fx_ballot.specs.Turn.{Voting, Decided}
-use Rattle.fx_ballot.specs.World.{Member, enters, is_outside}
+use Rattle.fx_ballot.specs.World.{Member, enters, is_outside, may_leave, stays, own_after}
 use Rattle.fx_ballot.proofs.Face.{Sound, sound_enter}
 use Rattle.fx_ballot.proofs.Names.{seat_found}
 use Rattle.fx_machine.specs.Reading.{OfCall, first_read, vote_in, estimate_in}
@@ -86,12 +85,11 @@ use Rattle.fx_calls.proofs.Decided.{read_more, none_read}
 use Rattle.fx_calls.proofs.Hearings as hearings
 use Rattle.fx_calls.proofs.Hearings.{PollsGrow, vote_said, estimate_said, read_own}
 use Rattle.fx_calls.proofs.Heeding.{at_call, call_here, call_far, OneCall, heeds_one, one_told, one_grows}
-use Rattle.fx_calls.proofs.Polled.{InPoll}
+use Rattle.fx_calls.proofs.Polled.{InPoll, IsFlag, flag_grows}
 use Rattle.fx_calls.proofs.Standing.{still_stands}
 use Rattle.fx_calls.proofs.Stepped.{still_in_step}
 use Rattle.fx_ballot.specs.declared.poll.Poll.{Poll}
 use Rattle.fx_ballot.specs.Turn.{Turn, turn}
-use Rattle.fx_ballot.specs.World.{stays, own_after}
 use Rattle.fx_ballot.proofs.Names.{names_apart}
 use Rattle.std.specs.Prelude.{not}
 use Rattle.fx_machine.specs.Calls.{balloting}
@@ -99,7 +97,6 @@ use Rattle.fx_machine.specs.Reading.{Ballot, seen}
 use Rattle.fx_machine.specs.Waits.{call_ballot}
 use Rattle.fx_losses.proofs.Turns.{ShapeOf, shape}
 use Rattle.fx_calls.proofs.Hearings.{OwnWords, reads_true, all_seen}
-use Rattle.fx_calls.proofs.Polled.{IsFlag, flag_grows}
 use Rattle.fx_calls.proofs.Polls.{behind_turn, turn_sound, turn_phase, turn_other, turn_living, turn_gone, turn_vote, turn_estimate}
 use Rattle.std.specs.Prelude.{slice_get}
 use Rattle.fx_ballot.specs.Laws.{held, TrueSlots}
@@ -732,9 +729,14 @@ module _ (job : Job) (w : World) (z : ℕ → ballot.World) (fate : ℕ → Opti
         dead true x = refl
         dead false x = absurd (let bad : true ≡ false = x in cc)
 
-        cause : (x : Error) → error ≡ x → (gathers.IsTrueError job w z fate l polls p facts) (Balloting old) asks_flag rest i x
+        pub cause : (x : Error) → error ≡ x → (gathers.IsTrueError job w z fate l polls p facts) (Balloting old) asks_flag rest i x
         cause (ByLoss q) same = (ap (has_place n.comm) (sym (ap error_of same)) ∙ placed_error, dead (w.killed q) (sym (living_last q) ∙ subst (IsOwed last_world) same owed.0))
-        cause (ByLeaving q) same = (ap (has_place n.comm) (sym (ap error_of same)) ∙ placed_error, sym (gone_last q) ∙ subst (IsOwed last_world) same owed.0)
+        cause (ByLeaving q) same = (ap (has_place n.comm) (sym (ap error_of same)) ∙ placed_error, sym (gone_last q) ∙ (subst (IsOwed last_world) same owed.0).0)
+
+        -- one that left hasn't voted there
+        pub left_unvoted : (q : ℕ) → error ≡ ByLeaving q → vote_of (polls (w.node p).epoch (w.node p).calls) q ≡ None
+        left_unvoted q same =
+            sym (votes_now last_phase (poll.Decided slots) e refl q) ∙ (sound_now last_phase (poll.Decided slots) e refl).messages.knows.outside q (subst (IsOwed last_world) same owed.0).1
 
         says_error : (x : Error) → error ≡ x → SaysOf who slots ((gathers.error_item job w z fate l polls p facts) (Balloting old) asks_flag rest i x)
         says_error (ByLoss q) same = ap (λ (qs : List ℕ). first_error qs slots) who_is ∙ is_error ∙ ap Some same

@@ -6,7 +6,7 @@ use Rattle.fx_walk.specs.declared.wanted.Wanted.TheVariants as wanted
 use Rattle.fx_walk.specs.Lengths.{OnlyPrints}
 use Rattle.fx_walk.specs.Walk.{Walk, Ends, Passes, Prints, Asks, walk_of}
 use Rattle.fx_fleet.specs.Runs.{AsksNothing}
-use Rattle.fx_calls.specs.Bodies.{IsOfNoGroup, IsOfParts, IsOfSums, OnlyAsks, AsksNoGroups, AsksParts, AsksSums}
+use Rattle.fx_calls.specs.Bodies.{IsOfNoGroup, IsOfParts, IsOfSums, IsUnshifted, OnlyAsks, AsksNoGroups, AsksParts, AsksSums, AsksNoShifts}
 
 prints_ask : (May : Wanted → Type 0) (walk : Walk) → OnlyPrints walk → OnlyAsks May walk
 prints_ask May (Ends state) only = tt
@@ -60,3 +60,35 @@ sums_ask_no_groups job asks view state = asks_more IsOfSums IsOfNoGroup sums_of_
 
 pub nothing_asks_sums : (job : Job) → AsksNothing job → AsksSums job
 nothing_asks_sums job asks view state = prints_ask IsOfSums (walk_of (facts_of job) job.body view state) (asks view state)
+
+pub unshifted_of_no_group : (v : Wanted) → IsUnshifted v → IsOfNoGroup v
+unshifted_of_no_group wanted.Barrier is = tt
+unshifted_of_no_group (wanted.Reduce op own) is = tt
+unshifted_of_no_group (wanted.Agree flag) is = tt
+unshifted_of_no_group (wanted.Shift by elements) is = tt
+unshifted_of_no_group (wanted.Group g start depth) is = absurd is
+unshifted_of_no_group (wanted.Attach g m) is = absurd is
+unshifted_of_no_group (wanted.Store g m piece) is = absurd is
+unshifted_of_no_group (wanted.Commit g) is = absurd is
+unshifted_of_no_group (wanted.Close g) is = absurd is
+unshifted_of_no_group (wanted.Restore g m stamp) is = absurd is
+unshifted_of_no_group (wanted.Delete g stamp) is = absurd is
+
+pub sums_unshifted : (v : Wanted) → IsOfSums v → IsUnshifted v
+sums_unshifted wanted.Barrier is = tt
+sums_unshifted (wanted.Reduce op own) is = tt
+sums_unshifted (wanted.Agree flag) is = tt
+sums_unshifted (wanted.Shift by elements) is = absurd is
+sums_unshifted (wanted.Group g start depth) is = absurd is
+sums_unshifted (wanted.Attach g m) is = absurd is
+sums_unshifted (wanted.Store g m piece) is = absurd is
+sums_unshifted (wanted.Commit g) is = absurd is
+sums_unshifted (wanted.Close g) is = absurd is
+sums_unshifted (wanted.Restore g m stamp) is = absurd is
+sums_unshifted (wanted.Delete g stamp) is = absurd is
+
+pub unshifted_ask_no_groups : (job : Job) → AsksNoShifts job → AsksNoGroups job
+unshifted_ask_no_groups job asks view state = asks_more IsUnshifted IsOfNoGroup unshifted_of_no_group (walk_of (facts_of job) job.body view state) (asks view state)
+
+pub sums_ask_no_shifts : (job : Job) → AsksSums job → AsksNoShifts job
+sums_ask_no_shifts job asks view state = asks_more IsOfSums IsUnshifted sums_unshifted (walk_of (facts_of job) job.body view state) (asks view state)

@@ -1,10 +1,11 @@
--- Each step is caused: a call of parts fails behind a loss, and who joins as an error does so behind one.
+-- Each step is caused: a call of parts and an agreement fail behind a loss, and who joins as an error does so behind one.
 use Rattle.std.proofs.Common.{◌≡◌, ◌≢◌, ◌⊎◌, ◌<◌, ◌==◌, ℕ, suc, Bool, true, false, ◌&&◌, ◌||◌, List, [], length, Option, Some, None, inl, inr, arith, refl, ap, sym, subst, ◌∙◌}
 use Rattle.std.specs.Prelude.{ℤ, if◌then◌else◌, is_some, is_none}
+use Rattle.std.proofs.lemmas.Bool.{cases_eq}
 use Rattle.fx_ballot.specs.declared.poll.Poll.TheVariants as poll
 use Rattle.fx_ballot.specs.Laws.{vote_of}
 use Rattle.fx_ballot.specs.Names.{has}
-use Rattle.fx_ballot.specs.Turn.{Phase}
+use Rattle.fx_ballot.specs.Turn.{Phase, Voting}
 use Rattle.fx_check.specs.Facts.{facts_of}
 use Rattle.fx_check.specs.Parts.{KeepsByParts}
 use Rattle.fx_comm.specs.Seats.{Seat, has_place}
@@ -14,17 +15,17 @@ use Rattle.fx_script.specs.declared.job.Job.{Job}
 use Rattle.fx_walk.specs.declared.wanted.Wanted.{Wanted}
 use Rattle.fx_walk.specs.declared.wanted.Wanted.TheVariants as wanted
 use Rattle.fx_walk.specs.Callbacks.{view_at_init, body_start, no_latest}
-use Rattle.fx_walk.specs.Plan.{common_of, Keeps}
+use Rattle.fx_walk.specs.Plan.{common_of, Keeps, Barrier, Reduce, Agree, Shift, Group, Attach, Store, Commit, Close, Restore, Delete}
 use Rattle.fx_walk.specs.Walk.{Walk, Passes, Prints, Reply}
 use Rattle.fx_machine.specs.Gathering.{own_part, gathering_error, due_from}
-use Rattle.fx_machine.specs.Nodes.{Node, Act, Stage, Core, Walking, Failed, Gathering, Balloting, Sharing, Telling, Giving, size, my_place, proc_at, state_of}
+use Rattle.fx_machine.specs.Nodes.{Node, Act, Stage, Core, Walking, Failed, Gathering, Balloting, Sharing, Telling, Giving, members, size, my_place, proc_at, state_of}
 use Rattle.fx_machine.specs.Reading as reading
 use Rattle.fx_machine.specs.Reading.{OfEpoch, only, first_read, part_in, vote_in, has_left, next_ballot, is_join}
 use Rattle.fx_machine.specs.Setup.{Setup}
 use Rattle.fx_machine.specs.Ballots.{joined}
 use Rattle.fx_machine.specs.Reading.{turn_in}
 use Rattle.fx_machine.specs.Steps.{next, inits}
-use Rattle.fx_machine.specs.Waits.{Wait, Error, ByLoss, ByLeaving}
+use Rattle.fx_machine.specs.Waits.{Wait, Error, ByLoss, ByLeaving, call_ballot, first_error}
 use Rattle.fx_deeds.specs.Deeds.{AsksFor, IsIn, OfEpoch, OfCall, Reason, First, HelpsOut, HasFailed, IsDone, Deed, Joins, Moves, Speaks, EndsAll, Repairs, Inits, PassesOn, PrintsOut, IsRefused, Attaches, Stores, Commits, Restores, EntersBarrier, EntersReduction, EntersShift, EntersAgreement, EntersDeletion, EntersClosing, EntersCreation, PassesBarrier, Reduces, Shifts, GathersNoMore, VotesNo, VotesYes, VotesFresh, HelpsAndGives, VotesFinding, ReturnsError, ReturnsBits, Closes, Creates, Deletes, WaitsIn, ForShares, ForTells, ForHelps, ForGives}
 use Rattle.fx_fleet.specs.Runs.{job_setup}
 use Rattle.fx_fleet.specs.World.{World, up, does}
@@ -39,25 +40,28 @@ use Rattle.fx_losses.proofs.Readings.{left_joined}
 use Rattle.fx_losses.proofs.Shows.{phase_of, is_begin, is_later, is_placed, up_parts}
 use Rattle.fx_losses.proofs.Tests.{first_of, second_of}
 use Rattle.fx_losses.proofs.Voted.{loss_owed, no_losses, inits_no_repairs}
-use Rattle.fx_calls.specs.Bodies.{IsOfSums, OnlyAsks, AsksSums}
-use Rattle.fx_calls.proofs.Bodies.{sums_of_no_group}
+use Rattle.fx_calls.specs.Bodies.{IsOfSums, IsUnshifted, OnlyAsks}
+use Rattle.fx_calls.proofs.Bodies.{sums_of_no_group, unshifted_of_no_group}
+use Rattle.fx_calls.proofs.Agrees as agrees
+use Rattle.fx_calls.proofs.Gathers as gathers
 use Rattle.fx_calls.proofs.Calling.{has_cause, none_refused}
 use Rattle.fx_calls.proofs.Closings.{lossy}
 use Rattle.fx_calls.proofs.Delivered.{ordered_front, has_part}
-use Rattle.fx_calls.proofs.Legally.{Legally}
+use Rattle.fx_calls.proofs.Legally.{Legally, acts_votes}
 use Rattle.fx_calls.proofs.Linked.{own_chapter}
 use Rattle.fx_calls.proofs.Missing.{part_readable, part_before, all_came, sums_due, sums_parts, no_part}
-use Rattle.fx_calls.proofs.Owed.{joined_same, inits_open}
+use Rattle.fx_calls.proofs.Hearings.{Polls}
+use Rattle.fx_calls.proofs.Owed.{Facts, joined_same, entered_same, inits_open}
 use Rattle.fx_calls.proofs.Plans.{MeetsIt, HavePlans, some_of, entered_alike}
 use Rattle.fx_calls.proofs.Stepped.{Keeping, Inside, AtPlan, CoreFits, meets_next}
-use Rattle.fx_calls.proofs.Causes.{Finished, IsCaused, SumsAt, Causes, Caused, asked_at, finished_at, build, none_join}
+use Rattle.fx_calls.proofs.Causes.{Finished, IsCaused, BodyAsks, AsksAt, Causes, CausedOf, no_groups, asked_at, finished_at, later, build, none_join, none_enter}
 
 abbrev is_failed : Stage → Bool
 is_failed Failed = true
 is_failed other = false
 
 -- no barrier and no reduction is a ballot
-no_ballot : (v : Wanted) (phase : Phase) → IsOfSums v → CoreFits v (Balloting phase) → ⊥
+pub no_ballot : (v : Wanted) (phase : Phase) → IsOfSums v → CoreFits v (Balloting phase) → ⊥
 no_ballot wanted.Barrier phase is fits = fits
 no_ballot (wanted.Reduce op own) phase is fits = fits
 no_ballot (wanted.Shift by elements) phase is fits = is
@@ -70,9 +74,38 @@ no_ballot (wanted.Close g) phase is fits = is
 no_ballot (wanted.Restore g m stamp) phase is fits = is
 no_ballot (wanted.Delete g stamp) phase is fits = is
 
+-- and what gathers parts is one of them, where it is no shift
+gathers_sums : (v : Wanted) → IsUnshifted v → CoreFits v Gathering → IsOfSums v
+gathers_sums wanted.Barrier is fits = tt
+gathers_sums (wanted.Reduce op own) is fits = tt
+gathers_sums (wanted.Agree flag) is fits = absurd fits
+gathers_sums (wanted.Shift by elements) is fits = absurd is
+gathers_sums (wanted.Group g start depth) is fits = absurd is
+gathers_sums (wanted.Attach g m) is fits = absurd is
+gathers_sums (wanted.Store g m piece) is fits = absurd is
+gathers_sums (wanted.Commit g) is fits = absurd is
+gathers_sums (wanted.Close g) is fits = absurd is
+gathers_sums (wanted.Restore g m stamp) is fits = absurd is
+gathers_sums (wanted.Delete g stamp) is fits = absurd is
+
+-- what the plan has as an agreement is one
+agrees_so : (v : Wanted) → common_of v ≡ Agree → (flag : ℤ) × (v ≡ wanted.Agree flag)
+agrees_so (wanted.Agree flag) e = (flag, refl)
+agrees_so wanted.Barrier e = absurd (let bad : Barrier ≡ Agree = e in cc)
+agrees_so (wanted.Reduce op own) e = absurd (let bad : Reduce op ≡ Agree = e in cc)
+agrees_so (wanted.Shift by elements) e = absurd (let bad : Shift by ≡ Agree = e in cc)
+agrees_so (wanted.Group g start depth) e = absurd (let bad : Group g start depth ≡ Agree = e in cc)
+agrees_so (wanted.Attach g m) e = absurd (let bad : Attach g m ≡ Agree = e in cc)
+agrees_so (wanted.Store g m piece) e = absurd (let bad : Store g m ≡ Agree = e in cc)
+agrees_so (wanted.Commit g) e = absurd (let bad : Commit g ≡ Agree = e in cc)
+agrees_so (wanted.Close g) e = absurd (let bad : Close g ≡ Agree = e in cc)
+agrees_so (wanted.Restore g m stamp) e = absurd (let bad : Restore g m stamp ≡ Agree = e in cc)
+agrees_so (wanted.Delete g stamp) e = absurd (let bad : Delete g stamp ≡ Agree = e in cc)
+
 -- ---- why a step is caused
 
-module _ (job : Job) (rules : KeepsByParts job) (planned : HavePlans job) (asks : AsksSums job) (ps : List ℕ) (p : ℕ) (w : World) (on : up (job_setup job) w p ≡ true) (caused : Caused job ps w) where
+module _ (May : Wanted → Type 0) (less : (v : Wanted) → May v → IsUnshifted v) (job : Job) (rules : KeepsByParts job) (planned : HavePlans job) (asks : BodyAsks May job) (ps : List ℕ) (p : ℕ) (w : World)
+    (on : up (job_setup job) w p ≡ true) (caused : CausedOf May job ps w) where
   abbrev s : Setup
   s = job_setup job
 
@@ -88,8 +121,11 @@ module _ (job : Job) (rules : KeepsByParts job) (planned : HavePlans job) (asks 
   abbrev l : Ledger
   l = ledger_of job (noted w.items)
 
-  abbrev causes : Causes job w l
+  abbrev causes : Causes May job w l
   causes = caused.causes
+
+  facts : Facts job w is.worlds is.fate l is.polls p
+  facts = record { rules = rules; planned = planned; asks = no_groups May less job asks; here = on; shows = is.shows; truthful = is.truthful; linked = is.linked; stepped = is.stepped; spoken = is.spoken; polled = is.polled; delivered = is.delivered }
 
   alive : w.killed p ≡ false
   alive = (up_parts (job_setup job) w p on).1
@@ -99,8 +135,14 @@ module _ (job : Job) (rules : KeepsByParts job) (planned : HavePlans job) (asks 
   placed_in : (q : ℕ) → has_place n.comm q ≡ true → has_place (comm_in l d) q ≡ true
   placed_in q place = let y = own_chapter job w is.worlds is.fate l p is.shows is.linked alive in ap (λ (c : List Seat). has_place c q) (ap comm_of y.at ∙ sym y.like.comm) ∙ place
 
-  sums_in : (core : Core) (v : Wanted) (rest : Reply → Walk) → IsIn n core v rest → IsOfSums v × ((reply : Reply) → OnlyAsks IsOfSums (rest reply))
-  sums_in core v rest i = subst (OnlyAsks IsOfSums) i.walk (subst (λ (a : Stage). SumsAt a n.walk) i.stage (causes.sums p alive))
+  still_in : (core : Core) (v : Wanted) (rest : Reply → Walk) → IsIn n core v rest → OnlyAsks May n.walk
+  still_in core v rest i = subst (λ (a : Stage). AsksAt May a n.walk) i.stage (causes.sums p alive)
+
+  asks_in : (core : Core) (v : Wanted) (rest : Reply → Walk) → IsIn n core v rest → May v × ((reply : Reply) → OnlyAsks May (rest reply))
+  asks_in core v rest i = subst (OnlyAsks May) i.walk (still_in core v rest i)
+
+  less_in : (core : Core) (v : Wanted) (rest : Reply → Walk) → IsIn n core v rest → IsUnshifted v
+  less_in core v rest i = less v (asks_in core v rest i).0
 
   inside : (core : Core) (v : Wanted) (rest : Reply → Walk) → IsIn n core v rest → Inside job l p n core
   inside core v rest i = subst (AtPlan job l p n) i.stage (is.stepped.nodes p alive).at
@@ -113,8 +155,8 @@ module _ (job : Job) (rules : KeepsByParts job) (planned : HavePlans job) (asks 
   -- who finished came to this call, and its part is here
   came : (v : Wanted) (rest : Reply → Walk) (x : ℕ) → IsIn n Gathering v rest → gathering_error n v ≡ Some (ByLeaving x) → has_left n x ≡ true → has_place (comm_in l d) x ≡ true → x ≢ p → Finished job l d → ⊥
   came v rest x i e left place ne f =
-      let sums = (sums_in Gathering v rest i).0 in
       let b = inside Gathering v rest i in
+      let sums = gathers_sums v (less_in Gathering v rest i) (b.fits i.place v i.state rest i.walk) in
       let meets : MeetsIt b.keeping.plan (common_of v) = meets_next i.place v i.state rest b.keeping.plan (sums_of_no_group v sums) (subst (λ (o : Walk). Keeps o b.keeping.plan no_latest) i.walk b.keeping.keeps) in
       let asked = some_of (l.entered d (suc b.before) x) (asked_at (l.entered d (suc b.before)) (comm_in l d) x (all_came job l d f.calls b.before f.counters b.keeping.plan (common_of v) f.at b.keeping.at meets) place) in
       let own : l.entered d (suc b.before) p ≡ Some v = subst (λ (o : ℕ). l.entered d o p ≡ Some v) b.calls (b.entered i.place v i.state rest i.walk) in
@@ -142,6 +184,45 @@ module _ (job : Job) (rules : KeepsByParts job) (planned : HavePlans job) (asks 
         | inl f ↦ absurd (came v rest x i e c.1 (placed_in x c.0) (λ same. let bad : None ≡ Some kind.0 = sym (no_vote_here s w is.worlds is.fate p on is.shows slot.Yes (ap phase_of i.stage)) ∙ ap (vote_of (is.worlds d)) (sym same) ∙ kind.1 in cc) f.1)
         | inr loss ↦ loss
       ]
+
+  -- who finished has voted in this agreement
+  has_voted : (flag : ℤ) (rest : Reply → Walk) (old : Phase) (x : ℕ) → IsIn n (Balloting old) (wanted.Agree flag) rest → has_place (comm_in l d) x ≡ true → Finished job l d → vote_of (is.polls d n.calls) x ≡ None → ⊥
+  has_voted flag rest old x i place f none =
+      let b = inside (Balloting old) (wanted.Agree flag) rest i in
+      let meets : MeetsIt b.keeping.plan Agree = meets_next i.place (wanted.Agree flag) i.state rest b.keeping.plan tt (subst (λ (o : Walk). Keeps o b.keeping.plan no_latest) i.walk b.keeping.keeps) in
+      let asked = some_of (l.entered d (suc b.before) x) (asked_at (l.entered d (suc b.before)) (comm_in l d) x (all_came job l d f.calls b.before f.counters b.keeping.plan Agree f.at b.keeping.at meets) place) in
+      let own : l.entered d (suc b.before) p ≡ Some (wanted.Agree flag) = subst (λ (o : ℕ). l.entered d o p ≡ Some (wanted.Agree flag)) b.calls (b.entered i.place (wanted.Agree flag) i.state rest i.walk) in
+      let flags = agrees_so asked.0 (entered_alike job l d (suc b.before) asked.0 (wanted.Agree flag) (is.stepped.entries d (suc b.before) x asked.0 asked.1) (is.stepped.entries d (suc b.before) p (wanted.Agree flag) own)) in
+      let bad : true ≡ false = sym (caused.voted d (suc b.before) x flags.0 (asked.1 ∙ ap Some flags.1)) ∙ ap (λ (o : ℕ). is_some (vote_of (is.polls d o) x)) (sym b.calls) ∙ ap is_some none in
+      cc
+
+  -- so an agreement that fails does so behind a loss
+  flag_loss : (flag : ℤ) (rest : Reply → Walk) (old : Phase) (slots : List Slot) (error : Error) → IsIn n (Balloting old) (wanted.Agree flag) rest → (turn_in (call_ballot n (wanted.Agree flag)) n old).poll ≡ poll.Decided slots
+      → first_error (members n) slots ≡ Some error → HasLoss l d
+  flag_loss flag rest old slots (ByLoss x) i e first =
+      let c = (agrees.cause job w is.worlds is.fate l is.polls p facts) old flag rest i slots e (ByLoss x) first (ByLoss x) refl in
+      (x, placed_in x c.0, is.linked.killed x ∙ c.1)
+  flag_loss flag rest old slots (ByLeaving x) i e first =
+      let c = (agrees.cause job w is.worlds is.fate l is.polls p facts) old flag rest i slots e (ByLeaving x) first (ByLeaving x) refl in
+      let kind = some_of (vote_of (is.worlds d) x) c.1 in
+      elim (causes.kinds d x kind.0 ((is.shows.sane p alive).later (ap is_later i.stage)) (is.linked.joined d x ∙ kind.1) (placed_in x c.0)) [
+        | inl f ↦ absurd (has_voted flag rest old x i (placed_in x c.0) f.1 ((agrees.left_unvoted job w is.worlds is.fate l is.polls p facts) old flag rest i slots e (ByLeaving x) first x refl))
+        | inr loss ↦ loss
+      ]
+
+  ballot_loss : (v : Wanted) (rest : Reply → Walk) (old : Phase) (slots : List Slot) (error : Error) → IsIn n (Balloting old) v rest → CoreFits v (Balloting old) → (turn_in (call_ballot n v) n old).poll ≡ poll.Decided slots
+      → first_error (members n) slots ≡ Some error → HasLoss l d
+  ballot_loss (wanted.Agree flag) rest old slots error i fits e first = flag_loss flag rest old slots error i e first
+  ballot_loss wanted.Barrier rest old slots error i fits e first = absurd fits
+  ballot_loss (wanted.Reduce op own) rest old slots error i fits e first = absurd fits
+  ballot_loss (wanted.Shift by elements) rest old slots error i fits e first = absurd fits
+  ballot_loss (wanted.Group g start depth) rest old slots error i fits e first = absurd fits
+  ballot_loss (wanted.Attach g m) rest old slots error i fits e first = absurd fits
+  ballot_loss (wanted.Store g m piece) rest old slots error i fits e first = absurd fits
+  ballot_loss (wanted.Commit g) rest old slots error i fits e first = absurd fits
+  ballot_loss (wanted.Close g) rest old slots error i fits e first = absurd fits
+  ballot_loss (wanted.Restore g m stamp) rest old slots error i fits e first = absurd fits
+  ballot_loss (wanted.Delete g stamp) rest old slots error i fits e first = absurd fits
 
   -- ---- who joins
 
@@ -179,75 +260,102 @@ module _ (job : Job) (rules : KeepsByParts job) (planned : HavePlans job) (asks 
 
   -- ---- all deeds
 
-  calmly : (act : Act) → next (job_setup job) (w.node p) ≡ Some act → (written_all job l (noted act.items)).joined ≡ l.joined → (act.node.stage ≡ Failed → HasLoss l act.node.epoch) → SumsAt act.node.stage act.node.walk → RepairLosses job l (noted act.items)
-      → Caused job ps (does (job_setup job) p act w)
-  calmly act e same failed sums losses = (build job rules planned asks ps p w act on e caused) ((none_join job rules planned asks ps p w act on e caused) same) failed sums losses
+  calmly : (act : Act) → next (job_setup job) (w.node p) ≡ Some act → (written_all job l (noted act.items)).joined ≡ l.joined → (written_all job l (noted act.items)).entered ≡ l.entered → (act.node.stage ≡ Failed → HasLoss l act.node.epoch)
+      → AsksAt May act.node.stage act.node.walk → RepairLosses job l (noted act.items) → CausedOf May job ps (does (job_setup job) p act w)
+  calmly act e joins enters failed sums losses =
+      (build May less job rules planned asks ps p w act on e caused) ((none_join May less job rules planned asks ps p w act on e caused) joins) ((none_enter May less job rules planned asks ps p w act on e caused) enters) failed sums losses
+
+  entering : (act : Act) (e : next (job_setup job) (w.node p) ≡ Some act) → (written_all job l (noted act.items)).joined ≡ l.joined
+      → ((x j q : ℕ) (flag : ℤ) → (written_all job l (noted act.items)).entered x j q ≡ Some (wanted.Agree flag)
+      → (l.entered x j q ≡ Some (wanted.Agree flag)) ⊎ (is_some (vote_of ((later May less job rules planned asks ps p w act on e caused).polls x j) q) ≡ true))
+      → (act.node.stage ≡ Failed → HasLoss l act.node.epoch) → AsksAt May act.node.stage act.node.walk → RepairLosses job l (noted act.items) → CausedOf May job ps (does (job_setup job) p act w)
+  entering act e joins votes failed sums losses =
+      (build May less job rules planned asks ps p w act on e caused) ((none_join May less job rules planned asks ps p w act on e caused) joins) votes failed sums losses
+
+  -- who enters a call has voted there, where it is an agreement
+  enters_so : (polls : Polls) (v : Wanted) (rest : Reply → Walk) (a : AsksFor n v rest) (core : Core) (fits : CoreFits v core) → ((flag : ℤ) → wanted.Agree flag ≡ v → is_some (vote_of (polls d (suc n.calls)) p) ≡ true) → (x j q : ℕ) (flag : ℤ)
+      → ((gathers.behind_entry job w is.worlds is.fate l is.polls p facts) v rest a core fits).entered x j q ≡ Some (wanted.Agree flag) → (l.entered x j q ≡ Some (wanted.Agree flag)) ⊎ (is_some (vote_of (polls x j) q) ≡ true)
+  enters_so polls v rest a core fits votes x j q flag at = elim (cases_eq q p) [
+    | inl same ↦ elim ((gathers.entry_or job w is.worlds is.fate l is.polls p facts) v rest a core fits x j (wanted.Agree flag)
+        (subst (λ (o : ℕ). ((gathers.behind_entry job w is.worlds is.fate l is.polls p facts) v rest a core fits).entered x j o ≡ Some (wanted.Agree flag)) same at)) [
+          | inl new ↦ inr (ap (λ (o : ℕ). is_some (vote_of (polls x j) o)) same ∙ ap (λ (o : ℕ). is_some (vote_of (polls o j) p)) new.0 ∙ ap (λ (o : ℕ). is_some (vote_of (polls d o) p)) new.1 ∙ votes flag new.2)
+          | inr old ↦ inl (ap (l.entered x j) same ∙ old)
+        ]
+    | inr ne ↦ inl (sym (((gathers.entry_adds job w is.worlds is.fate l is.polls p facts) v rest a core fits).far x j q ne) ∙ at)
+  ]
 
   no_failure : (m : Node) → is_failed m.stage ≡ false → m.stage ≡ Failed → HasLoss l m.epoch
   no_failure m calm at = absurd (let bad : false ≡ true = sym calm ∙ ap is_failed at in cc)
 
-  no_wait : (core : Core) (v : Wanted) (wait : Wait) → WaitsIn s n core v wait → IsOfSums v → ⊥
+  no_wait : (core : Core) (v : Wanted) (wait : Wait) → WaitsIn s n core v wait → IsUnshifted v → ⊥
   no_wait core v wait (ForShares g) is = is
   no_wait core v wait (ForTells g start depth) is = is
   no_wait core v wait (ForHelps g start depth j all known none) is = is
   no_wait core v wait (ForGives g start depth j known) is = is
 
-  sums_asked : (v : Wanted) (rest : Reply → Walk) → AsksFor n v rest → IsOfSums v × ((reply : Reply) → OnlyAsks IsOfSums (rest reply))
-  sums_asked v rest a = subst (OnlyAsks IsOfSums) a.walk (subst (λ (x : Stage). SumsAt x n.walk) a.stage (causes.sums p alive))
+  still_asks : (v : Wanted) (rest : Reply → Walk) → AsksFor n v rest → OnlyAsks May n.walk
+  still_asks v rest a = subst (λ (x : Stage). AsksAt May x n.walk) a.stage (causes.sums p alive)
 
-  still_asks : (v : Wanted) (rest : Reply → Walk) → AsksFor n v rest → OnlyAsks IsOfSums n.walk
-  still_asks v rest a = subst (λ (x : Stage). SumsAt x n.walk) a.stage (causes.sums p alive)
+  less_asked : (v : Wanted) (rest : Reply → Walk) → AsksFor n v rest → IsUnshifted v
+  less_asked v rest a = less v (subst (OnlyAsks May) a.walk (still_asks v rest a)).0
 
-  walks_sums : (walk : Walk) → n.stage ≡ Walking → n.walk ≡ walk → OnlyAsks IsOfSums walk
-  walks_sums walk at same = subst (OnlyAsks IsOfSums) same (subst (λ (x : Stage). SumsAt x n.walk) at (causes.sums p alive))
+  walks_on : (walk : Walk) → n.stage ≡ Walking → n.walk ≡ walk → OnlyAsks May walk
+  walks_on walk at same = subst (OnlyAsks May) same (subst (λ (x : Stage). AsksAt May x n.walk) at (causes.sums p alive))
 
-  -- what sums are is no ballot
-  not_polled : (phase : Phase) (v : Wanted) (rest : Reply → Walk) → IsIn n (Balloting phase) v rest → ⊥
-  not_polled phase v rest i = no_ballot v phase (sums_in (Balloting phase) v rest i).0 ((inside (Balloting phase) v rest i).fits i.place v i.state rest i.walk)
+  fits_ballot : (phase : Phase) (v : Wanted) (rest : Reply → Walk) → IsIn n (Balloting phase) v rest → CoreFits v (Balloting phase)
+  fits_ballot phase v rest i = (inside (Balloting phase) v rest i).fits i.place v i.state rest i.walk
 
-  pub caused_by : (act : Act) → next (job_setup job) (w.node p) ≡ Some act → Deed (job_setup job) (w.node p) act → Caused job ps (does (job_setup job) p act w)
+  pub caused_by : (act : Act) → next (job_setup job) (w.node p) ≡ Some act → Deed (job_setup job) (w.node p) act → CausedOf May job ps (does (job_setup job) p act w)
   caused_by act e (Joins kind why may) =
-      (build job rules planned asks ps p w (joined kind n) on e caused) (joined_so kind (reason_cause kind why)) (no_failure (joined kind n).node refl) tt (tt, tt)
-  caused_by act e (Moves b at phase (OfEpoch old stage) t) = calmly act e refl (no_failure act.node refl) tt tt
-  caused_by act e (Moves b at phase (OfCall v rest old i) t) = absurd (not_polled old v rest i)
-  caused_by act e (Speaks b at phase slots (OfEpoch old stage) t) = calmly act e refl (no_failure act.node refl) tt tt
-  caused_by act e (Speaks b at phase slots (OfCall v rest old i) t) = absurd (not_polled old v rest i)
-  caused_by act e (EndsAll phase slots at t last) = calmly act e refl (no_failure act.node refl) tt (tt, tt)
+      (build May less job rules planned asks ps p w act on e caused) (joined_so kind (reason_cause kind why)) ((none_enter May less job rules planned asks ps p w act on e caused) refl) (no_failure (joined kind n).node refl) tt (tt, tt)
+  caused_by act e (Moves b at phase (OfEpoch old stage) t) = calmly act e refl refl (no_failure act.node refl) tt tt
+  caused_by act e (Moves b at phase (OfCall v rest old i) t) = calmly act e refl refl (no_failure act.node refl) (still_in (Balloting old) v rest i) tt
+  caused_by act e (Speaks b at phase slots (OfEpoch old stage) t) = calmly act e refl refl (no_failure act.node refl) tt tt
+  caused_by act e (Speaks b at phase slots (OfCall v rest old i) t) = calmly act e refl refl (no_failure act.node refl) (still_in (Balloting old) v rest i) tt
+  caused_by act e (EndsAll phase slots at t last) = calmly act e refl refl (no_failure act.node refl) tt (tt, tt)
   caused_by act e (Repairs phase slots at t goes_on) =
-      calmly act e refl (no_failure act.node refl) tt (
+      calmly act e refl refl (no_failure act.node refl) tt (
         loss_owed l d (λ pos. lossy job w is.worlds is.fate l p on is.shows is.linked phase at (turn_in (next_ballot n) n phase).phase slots (polled s w is.worlds is.fate p on is.shows is.truthful phase (poll.Decided slots) t) goes_on
             (λ q v joined place. elim (causes.kinds d q v pos joined place) [ inl f ↦ inl f.0 | inr loss ↦ inr loss ]) pos),
         tt,
       )
   caused_by act e (Inits at place) =
-      calmly act e (joined_same job l (inits s n).items (inits_open s n)) (no_failure act.node refl)
+      calmly act e (joined_same job l (inits s n).items (inits_open s n)) (entered_same job l (inits s n).items (inits_open s n)) (no_failure act.node refl)
       (asks (view_at_init n.role (my_place n) (size n)) (body_start (facts_of job) n.role (my_place n) (size n) (state_of n))) (no_losses job l (inits s n).items (inits_no_repairs s n))
-  caused_by act e (PassesOn rest at t) = calmly act e refl (no_failure act.node (ap is_failed at)) (subst (λ (x : Stage). SumsAt x rest) (sym at) (walks_sums (Passes rest) at t)) tt
-  caused_by act e (PrintsOut printed rest at t) = calmly act e refl (no_failure act.node (ap is_failed at)) (subst (λ (x : Stage). SumsAt x rest) (sym at) (walks_sums (Prints printed rest) at t).1) (tt, tt)
-  caused_by act e (IsRefused v rest r a t) = absurd (none_refused s n v r (sums_of_no_group v (sums_asked v rest a).0) t)
-  caused_by act e (Attaches g m rest a may) = absurd (sums_asked (wanted.Attach g m) rest a).0
-  caused_by act e (Stores g m piece rest a may) = absurd (sums_asked (wanted.Store g m piece) rest a).0
-  caused_by act e (Commits g rest a may) = absurd (sums_asked (wanted.Commit g) rest a).0
-  caused_by act e (Restores g m stamp rest a may) = absurd (sums_asked (wanted.Restore g m stamp) rest a).0
-  caused_by act e (EntersBarrier rest a) = calmly act e refl (no_failure act.node refl) (still_asks wanted.Barrier rest a) (tt, tt)
-  caused_by act e (EntersReduction op value rest a) = calmly act e refl (no_failure act.node refl) (still_asks (wanted.Reduce op value) rest a) (tt, tt)
-  caused_by act e (EntersShift by elements rest a) = absurd (sums_asked (wanted.Shift by elements) rest a).0
-  caused_by act e (EntersAgreement flag rest a) = absurd (sums_asked (wanted.Agree flag) rest a).0
-  caused_by act e (EntersDeletion g stamp rest a may) = absurd (sums_asked (wanted.Delete g stamp) rest a).0
-  caused_by act e (EntersClosing g rest a may) = absurd (sums_asked (wanted.Close g) rest a).0
-  caused_by act e (EntersCreation g start depth rest a may) = absurd (sums_asked (wanted.Group g start depth) rest a).0
-  caused_by act e (PassesBarrier rest i all) = calmly act e refl (no_failure act.node refl) ((sums_in Gathering wanted.Barrier rest i).1 _) (tt, tt)
-  caused_by act e (Reduces op value rest i all) = calmly act e refl (no_failure act.node refl) ((sums_in Gathering (wanted.Reduce op value) rest i).1 _) (tt, tt)
-  caused_by act e (Shifts by elements rest i all) = absurd (sums_in Gathering (wanted.Shift by elements) rest i).0
-  caused_by act e (GathersNoMore v rest (ByLoss x) kind i some t) = calmly act e refl (λ at. gathering_loss v rest (ByLoss x) i t) tt (tt, tt)
-  caused_by act e (GathersNoMore v rest (ByLeaving x) kind i some t) = calmly act e refl (λ at. gathering_loss v rest (ByLeaving x) i t) tt (tt, tt)
-  caused_by act e (VotesNo core v rest wait vote i at un) = absurd (no_wait core v wait at (sums_in core v rest i).0)
-  caused_by act e (VotesYes g rest i all) = absurd (sums_in Sharing (wanted.Close g) rest i).0
-  caused_by act e (VotesFresh g start depth rest i all none) = absurd (sums_in Telling (wanted.Group g start depth) rest i).0
-  caused_by act e (HelpsAndGives g start depth rest j i all known may) = absurd (sums_in Telling (wanted.Group g start depth) rest i).0
-  caused_by act e (VotesFinding g start depth rest j i known all) = absurd (sums_in Giving (wanted.Group g start depth) rest i).0
-  caused_by act e (ReturnsError v rest phase slots error i decided t) = absurd (not_polled phase v rest i)
-  caused_by act e (ReturnsBits flag rest slots i) = absurd (sums_in (Balloting i.phase) (wanted.Agree flag) rest i.within).0
-  caused_by act e (Closes g rest slots i) = absurd (sums_in (Balloting i.phase) (wanted.Close g) rest i.within).0
-  caused_by act e (Creates g start depth rest slots i) = absurd (sums_in (Balloting i.phase) (wanted.Group g start depth) rest i.within).0
-  caused_by act e (Deletes g stamp rest slots i) = absurd (sums_in (Balloting i.phase) (wanted.Delete g stamp) rest i.within).0
+  caused_by act e (PassesOn rest at t) = calmly act e refl refl (no_failure act.node (ap is_failed at)) (subst (λ (x : Stage). AsksAt May x rest) (sym at) (walks_on (Passes rest) at t)) tt
+  caused_by act e (PrintsOut printed rest at t) = calmly act e refl refl (no_failure act.node (ap is_failed at)) (subst (λ (x : Stage). AsksAt May x rest) (sym at) (walks_on (Prints printed rest) at t).1) (tt, tt)
+  caused_by act e (IsRefused v rest r a t) = absurd (none_refused s n v r (unshifted_of_no_group v (less_asked v rest a)) t)
+  caused_by act e (Attaches g m rest a may) = absurd (less_asked (wanted.Attach g m) rest a)
+  caused_by act e (Stores g m piece rest a may) = absurd (less_asked (wanted.Store g m piece) rest a)
+  caused_by act e (Commits g rest a may) = absurd (less_asked (wanted.Commit g) rest a)
+  caused_by act e (Restores g m stamp rest a may) = absurd (less_asked (wanted.Restore g m stamp) rest a)
+  caused_by act e (EntersBarrier rest a) =
+      entering act e refl (enters_so (later May less job rules planned asks ps p w act on e caused).polls wanted.Barrier rest a Gathering tt (λ flag same. absurd (let bad : Agree ≡ Barrier = ap common_of same in cc)))
+      (no_failure act.node refl) (still_asks wanted.Barrier rest a) (tt, tt)
+  caused_by act e (EntersReduction op value rest a) =
+      entering act e refl (enters_so (later May less job rules planned asks ps p w act on e caused).polls (wanted.Reduce op value) rest a Gathering tt (λ flag same. absurd (let bad : Agree ≡ Reduce op = ap common_of same in cc)))
+      (no_failure act.node refl) (still_asks (wanted.Reduce op value) rest a) (tt, tt)
+  caused_by act e (EntersShift by elements rest a) = absurd (less_asked (wanted.Shift by elements) rest a)
+  caused_by act e (EntersAgreement flag rest a) =
+      entering act e refl
+      (enters_so (later May less job rules planned asks ps p w act on e caused).polls (wanted.Agree flag) rest a (Balloting Voting) tt (λ o same. acts_votes job rules planned (no_groups May less job asks) ps p w act on e is refl Voting refl))
+      (no_failure act.node refl) (still_asks (wanted.Agree flag) rest a) (tt, tt)
+  caused_by act e (EntersDeletion g stamp rest a may) = absurd (less_asked (wanted.Delete g stamp) rest a)
+  caused_by act e (EntersClosing g rest a may) = absurd (less_asked (wanted.Close g) rest a)
+  caused_by act e (EntersCreation g start depth rest a may) = absurd (less_asked (wanted.Group g start depth) rest a)
+  caused_by act e (PassesBarrier rest i all) = calmly act e refl refl (no_failure act.node refl) ((asks_in Gathering wanted.Barrier rest i).1 _) (tt, tt)
+  caused_by act e (Reduces op value rest i all) = calmly act e refl refl (no_failure act.node refl) ((asks_in Gathering (wanted.Reduce op value) rest i).1 _) (tt, tt)
+  caused_by act e (Shifts by elements rest i all) = absurd (less_in Gathering (wanted.Shift by elements) rest i)
+  caused_by act e (GathersNoMore v rest (ByLoss x) kind i some t) = calmly act e refl refl (λ at. gathering_loss v rest (ByLoss x) i t) tt (tt, tt)
+  caused_by act e (GathersNoMore v rest (ByLeaving x) kind i some t) = calmly act e refl refl (λ at. gathering_loss v rest (ByLeaving x) i t) tt (tt, tt)
+  caused_by act e (VotesNo core v rest wait vote i at un) = absurd (no_wait core v wait at (less_in core v rest i))
+  caused_by act e (VotesYes g rest i all) = absurd (less_in Sharing (wanted.Close g) rest i)
+  caused_by act e (VotesFresh g start depth rest i all none) = absurd (less_in Telling (wanted.Group g start depth) rest i)
+  caused_by act e (HelpsAndGives g start depth rest j i all known may) = absurd (less_in Telling (wanted.Group g start depth) rest i)
+  caused_by act e (VotesFinding g start depth rest j i known all) = absurd (less_in Giving (wanted.Group g start depth) rest i)
+  caused_by act e (ReturnsError v rest phase slots (ByLoss x) i decided t) = calmly act e refl refl (λ at. ballot_loss v rest phase slots (ByLoss x) i (fits_ballot phase v rest i) decided t) tt (tt, tt)
+  caused_by act e (ReturnsError v rest phase slots (ByLeaving x) i decided t) = calmly act e refl refl (λ at. ballot_loss v rest phase slots (ByLeaving x) i (fits_ballot phase v rest i) decided t) tt (tt, tt)
+  caused_by act e (ReturnsBits flag rest slots i) = calmly act e refl refl (no_failure act.node refl) ((asks_in (Balloting i.phase) (wanted.Agree flag) rest i.within).1 _) (tt, tt)
+  caused_by act e (Closes g rest slots i) = absurd (less_in (Balloting i.phase) (wanted.Close g) rest i.within)
+  caused_by act e (Creates g start depth rest slots i) = absurd (less_in (Balloting i.phase) (wanted.Group g start depth) rest i.within)
+  caused_by act e (Deletes g stamp rest slots i) = absurd (less_in (Balloting i.phase) (wanted.Delete g stamp) rest i.within)

@@ -7,6 +7,7 @@ use Rattle.std.specs.List.{list_all}
 use Rattle.std.proofs.lemmas.Bool.{and_parts}
 use Rattle.fx_ballot.specs.Laws.{vote_of, IsTrueSlot}
 use Rattle.fx_ballot.specs.Names.{seat_at}
+use Rattle.fx_ballot.specs.Turn.{Outside}
 use Rattle.fx_ballot.specs.World as ballot
 use Rattle.fx_comm.specs.Seats.{Seat}
 use Rattle.fx_link.specs.declared.slot.Slot.{Slot}
@@ -42,10 +43,10 @@ error_at (q ∷ qs) (x ∷ xs) error e = of (error_at qs xs error) (error_in q x
     of later (Some y) is e = record { place = 0; below = omega arith; slot = x; at = refl; is = is ∙ e }
     of later None is e = let r = later e in record { place = suc r.place; below = (let less = r.below in omega (arith, less)); slot = r.slot; at = r.at; is = r.is }
 
--- an error tells of one that was killed or has left
+-- an error tells of one that was killed, or has left without having voted
 abbrev pub IsOwed : ballot.World → Error → Type 0
 IsOwed y (ByLoss q) = (y.member q).living ≡ false
-IsOwed y (ByLeaving q) = (y.member q).gone ≡ true
+IsOwed y (ByLeaving q) = ((y.member q).gone ≡ true) × ((y.member q).phase ≡ Outside)
 
 -- and of the process of that place
 abbrev pub error_of : Error → ℕ
@@ -62,7 +63,7 @@ true_error l e k y q x error flags (inr (inl v)) is =
     (subst (IsOwed y) same v.1, sym (ap error_of same))
 true_error l e k y q x error flags (inr (inr v)) is =
     let same : ByLeaving q ≡ error = same_error (ByLeaving q) error (sym (ap (error_in q) v.0) ∙ is) in
-    (subst (IsOwed y) same v.1, sym (ap error_of same))
+    (subst (IsOwed y) same (v.1, v.2), sym (ap error_of same))
 
 -- ---- flags
 

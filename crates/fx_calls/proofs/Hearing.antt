@@ -72,16 +72,24 @@ stepped_at job l w v b n nodes killed keeps is = record {
   ];
 }
 
-pub hears_legally : (job : Job) (ps : List ℕ) (a b : ℕ) (t : Text) (rest : List Text) (w : World) → up (job_setup job) w b ≡ true → w.link a b ≡ t ∷ rest → Legally job ps w
-    → Legally job ps (receives_front a b (t ∷ rest) w)
-hears_legally job ps a b t rest w on front is = elim (cases_eq a b) [
-  | inl same ↦ quietly job ps w (receives_front a b (t ∷ rest) w) is.worlds is.fate silent is polled delivered (self_shows (job_setup job) a b t rest w is.worlds is.fate on front is.shows same) (truthful_receives (job_setup job) is.worlds is.fate a b t rest w front is.truthful)
-      (linked_same job w (receives_front a b (t ∷ rest) w) is.worlds is.worlds is.fate (ledger_of job (noted w.items)) (λ q. refl) (λ d q. refl) stands is.linked) stepped spoken
-  | inr ne ↦ quietly job ps w (receives_front a b (t ∷ rest) w) (behind_delivery (job_setup job) a b t rest w is.worlds is.fate on front is.shows ne) is.fate silent is polled delivered (deliver_shows (job_setup job) a b t rest w is.worlds is.fate on front is.shows ne)
-      (truthful_same (job_setup job) is.worlds (behind_delivery (job_setup job) a b t rest w is.worlds is.fate on front is.shows ne) is.fate (receives_front a b (t ∷ rest) w) (λ d q. got_own a b (text_in (suc d) t) (of_epoch (suc d) rest) (is.worlds d) ne q)
-      (truthful_receives (job_setup job) is.worlds is.fate a b t rest w front is.truthful))
-      (linked_same job w (receives_front a b (t ∷ rest) w) is.worlds (behind_delivery (job_setup job) a b t rest w is.worlds is.fate on front is.shows ne) is.fate (ledger_of job (noted w.items)) (λ q. refl)
-      (λ d q. ap (λ (x : Heard). x.vote) (got_own a b (text_in (suc d) t) (of_epoch (suc d) rest) (is.worlds d) ne q)) stands is.linked) stepped spoken
+-- what was heard, and that the ballots of calls are as before
+hears_so : (job : Job) (ps : List ℕ) (a b : ℕ) (t : Text) (rest : List Text) (w : World) → up (job_setup job) w b ≡ true → w.link a b ≡ t ∷ rest → (is : Legally job ps w)
+    → (x : Legally job ps (receives_front a b (t ∷ rest) w)) × (x.polls ≡ is.polls)
+unfolding quietly
+hears_so job ps a b t rest w on front is = elim (cases_eq a b) [
+  | inl same ↦ (
+    quietly job ps w (receives_front a b (t ∷ rest) w) is.worlds is.fate silent is polled delivered (self_shows (job_setup job) a b t rest w is.worlds is.fate on front is.shows same) (truthful_receives (job_setup job) is.worlds is.fate a b t rest w front is.truthful)
+        (linked_same job w (receives_front a b (t ∷ rest) w) is.worlds is.worlds is.fate (ledger_of job (noted w.items)) (λ q. refl) (λ d q. refl) stands is.linked) stepped spoken,
+    refl,
+  )
+  | inr ne ↦ (
+    quietly job ps w (receives_front a b (t ∷ rest) w) (behind_delivery (job_setup job) a b t rest w is.worlds is.fate on front is.shows ne) is.fate silent is polled delivered (deliver_shows (job_setup job) a b t rest w is.worlds is.fate on front is.shows ne)
+        (truthful_same (job_setup job) is.worlds (behind_delivery (job_setup job) a b t rest w is.worlds is.fate on front is.shows ne) is.fate (receives_front a b (t ∷ rest) w) (λ d q. got_own a b (text_in (suc d) t) (of_epoch (suc d) rest) (is.worlds d) ne q)
+        (truthful_receives (job_setup job) is.worlds is.fate a b t rest w front is.truthful))
+        (linked_same job w (receives_front a b (t ∷ rest) w) is.worlds (behind_delivery (job_setup job) a b t rest w is.worlds is.fate on front is.shows ne) is.fate (ledger_of job (noted w.items)) (λ q. refl)
+        (λ d q. ap (λ (x : Heard). x.vote) (got_own a b (text_in (suc d) t) (of_epoch (suc d) rest) (is.worlds d) ne q)) stands is.linked) stepped spoken,
+    refl,
+  )
 ]
   where
     stepped : Stepped job (receives_front a b (t ∷ rest) w) (ledger_of job (noted w.items))
@@ -108,6 +116,15 @@ hears_legally job ps a b t rest w on front is = elim (cases_eq a b) [
       | inr ne ↦ subst (AtStage job x) (sym (put_other w.node b q (receives a t (w.node b)) ne)) i
     ]
 
+pub hears_legally : (job : Job) (ps : List ℕ) (a b : ℕ) (t : Text) (rest : List Text) (w : World) → up (job_setup job) w b ≡ true → w.link a b ≡ t ∷ rest → Legally job ps w
+    → Legally job ps (receives_front a b (t ∷ rest) w)
+hears_legally job ps a b t rest w on front is = (hears_so job ps a b t rest w on front is).0
+
+pub hears_polls : (job : Job) (ps : List ℕ) (a b : ℕ) (t : Text) (rest : List Text) (w : World) (on : up (job_setup job) w b ≡ true) (front : w.link a b ≡ t ∷ rest) (is : Legally job ps w)
+    → (hears_legally job ps a b t rest w on front is).polls ≡ is.polls
+unfolding hears_legally
+hears_polls job ps a b t rest w on front is = (hears_so job ps a b t rest w on front is).1
+
 pub tells_legally : (job : Job) (ps : List ℕ) (a b : ℕ) (w : World) → w.killed a ≡ true → Legally job ps w → Legally job ps (learns a b w)
 tells_legally job ps a b w dead is =
     quietly job ps w (learns a b w) (λ d. tells a b (is.worlds d)) is.fate silent is (polled_learns (ledger_of job (noted w.items)) is.polls a b w is.polled)
@@ -127,3 +144,7 @@ tells_legally job ps a b w dead is =
       | inl same ↦ subst (λ o. AtStage job x ((learns a b w).node o)) (sym same) (subst (AtStage job x) (sym (put_same w.node b (is_told a (w.node b)))) (still_stands job x (w.node b) (w.node b).texts (is_told a (w.node b)).lost (subst (λ o. AtStage job x (w.node o)) same i)))
       | inr ne ↦ subst (AtStage job x) (sym (put_other w.node b q (is_told a (w.node b)) ne)) i
     ]
+
+pub tells_polls : (job : Job) (ps : List ℕ) (a b : ℕ) (w : World) (dead : w.killed a ≡ true) (is : Legally job ps w) → (tells_legally job ps a b w dead is).polls ≡ is.polls
+unfolding tells_legally quietly
+tells_polls job ps a b w dead is = refl

@@ -53,6 +53,10 @@ passes_legally job ps p w few off is = record {
   due = due_past (ledger_of job (noted w.items)).stands p (ledger_of job (noted w.items)).kills ps (gone_where_not_up job (ledger_of job (noted w.items)) w is.worlds is.fate is.linked p few ∙ ap not off) is.due;
 }
 
+pub passes_polls : (job : Job) (ps : List ℕ) (p : ℕ) (w : World) (few : p < procs_of job) (off : up (job_setup job) w p ≡ false) (is : Legally job (p ∷ ps) w) → (passes_legally job ps p w few off is).polls ≡ is.polls
+unfolding passes_legally
+passes_polls job ps p w few off is = refl
+
 -- ---- the start
 
 abbrev none_yet : ℕ → Option (List Slot)

@@ -1,13 +1,15 @@
 -- Worlds of bodies that ask nothing of data groups, whose journal is legal; a step keeps that.
 use Rattle.std.proofs.lemmas.List.Elements.{filter-append}
-use Rattle.std.proofs.Common.{◌≡◌, ◌<◌, ℕ, Bool, true, false, ◌&&◌, List, [], ◌∷◌, ◌++◌, map, Option, Some, refl, sym, ap, subst, ◌∙◌}
-use Rattle.std.specs.Prelude.{nat_lt, not}
-use Rattle.fx_ballot.specs.World.{start, tells, kills, put}
+use Rattle.std.proofs.Common.{◌≡◌, ◌<◌, ℕ, Bool, true, false, ◌&&◌, List, [], ◌∷◌, ◌++◌, map, Option, Some, None, refl, sym, ap, subst, ◌∙◌}
+use Rattle.std.specs.Prelude.{nat_lt, not, is_some}
+use Rattle.fx_ballot.specs.Laws.{vote_of}
+use Rattle.fx_ballot.specs.Turn.{Phase}
+use Rattle.fx_ballot.specs.World.{start, tells, kills, put, is_outside}
 use Rattle.fx_ballot.specs.World as ballot
 use Rattle.fx_item.specs.declared.item.Item.{Item}
 use Rattle.fx_link.specs.declared.slot.Slot.{Slot}
 use Rattle.fx_script.specs.declared.job.Job.{Job}
-use Rattle.fx_machine.specs.Nodes.{Act, has_ended}
+use Rattle.fx_machine.specs.Nodes.{Act, Calling, Balloting, has_ended}
 use Rattle.fx_machine.specs.Setup.{Setup}
 use Rattle.fx_machine.specs.Steps.{next}
 use Rattle.fx_machine.specs.Texts.{Text}
@@ -17,7 +19,7 @@ use Rattle.fx_check.specs.Parts.{KeepsByParts}
 use Rattle.fx_fleet.specs.Runs.{job_setup}
 use Rattle.fx_calls.specs.Bodies.{AsksNoGroups}
 use Rattle.fx_calls.proofs.Delivered.{Delivered, delivered_step}
-use Rattle.fx_calls.proofs.Hearings.{Polls}
+use Rattle.fx_calls.proofs.Hearings.{Polls, PollsGrow}
 use Rattle.fx_calls.proofs.Polled.{Polled, polled_step}
 use Rattle.fx_calls.proofs.Parts.{Spoken}
 use Rattle.fx_calls.proofs.Plans.{HavePlans}
@@ -34,7 +36,7 @@ use Rattle.fx_losses.specs.Eras.{first_era}
 use Rattle.fx_calls.proofs.Deeds.{deed_does}
 use Rattle.fx_calls.proofs.Owed.{Does}
 use Rattle.fx_losses.proofs.Eras.{era_grows}
-use Rattle.fx_calls.proofs.Linked.{Linked, linked_step}
+use Rattle.fx_calls.proofs.Linked.{Linked, linked_step, own_chapter}
 use Rattle.fx_losses.proofs.Moves.{shows_step}
 use Rattle.fx_losses.proofs.Schedule.{due_kept}
 use Rattle.fx_losses.proofs.Shows.{Shows, Truthful, up_parts}
@@ -136,3 +138,22 @@ module _ (job : Job) (parts : KeepsByParts job) (planned : HavePlans job) (asks 
     due = subst (λ (x : Ledger). due_kills x.stands x.kills ≡ due_kills x.stands ps) (sym ledger_now)
         (ap (due_kills m.stands) o.kills ∙ due_kept l.stands m.stands grows l.kills ps is.due);
   }
+
+  pub acts_polls : PollsGrow is.polls acts_legally.polls
+  unfolding acts_legally
+  acts_polls = o.heeds.grows
+
+  -- who is in a ballot of a call behind the step has voted there
+  pub acts_votes : act.node.epoch ≡ (w.node p).epoch → (phase : Phase) → act.node.stage ≡ Calling (Balloting phase) → is_some (vote_of (acts_legally.polls (w.node p).epoch act.node.calls) p) ≡ true
+  unfolding acts_legally
+  acts_votes same phase at = of (vote_of (o.heeds.now (w.node p).epoch act.node.calls) p) refl
+    where
+      inside : is_outside ((o.heeds.now (w.node p).epoch act.node.calls).member p).phase ≡ false
+      inside = ap (λ (x : ℕ). is_outside ((o.heeds.now x act.node.calls).member p).phase) (sym same) ∙ ap is_outside (o.heeds.mine.balloting phase at).stands ∙ (o.heeds.mine.balloting phase at).inside
+
+      begun : is_some (l.chapters (w.node p).epoch) ≡ true
+      begun = ap is_some (own_chapter job w is.worlds is.fate l p is.shows is.linked (up_parts s w p on).1).at
+
+      of : (v : Option Slot) → vote_of (o.heeds.now (w.node p).epoch act.node.calls) p ≡ v → is_some (vote_of (o.heeds.now (w.node p).epoch act.node.calls) p) ≡ true
+      of (Some v) has = ap is_some has
+      of None has = absurd (let bad : true ≡ false = sym (ap is_outside ((o.heeds.sound (w.node p).epoch act.node.calls begun).messages.knows.entered p has)) ∙ inside in cc)

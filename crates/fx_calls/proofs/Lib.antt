@@ -31,3 +31,14 @@ pub mod Hearing
 pub mod Losing
 pub mod Legality
 pub mod Losses
+pub mod Stuck
+pub mod Still
+pub mod Over
+pub mod Lapses
+pub mod Counts
+pub mod Heights
+pub mod Rising
+pub mod Attended
+pub mod Fair
+pub mod Rests
+pub mod Ends

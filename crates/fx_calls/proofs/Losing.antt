@@ -3,6 +3,7 @@ use Rattle.std.proofs.lemmas.List.Elements.{filter-append}
 use Rattle.std.proofs.lemmas.Bool.{cases_eq}
 use Rattle.std.proofs.Common.{◌==◌, ◌≡◌, ◌≢◌, ◌<◌, ℕ, true, false, List, [], ◌∷◌, ◌++◌, inl, inr, refl, sym, ap, subst, ◌∙◌}
 use Rattle.fx_ballot.specs.declared.heard.Heard.{Heard}
+use Rattle.fx_ballot.specs.Laws.{vote_of}
 use Rattle.fx_ballot.specs.World.{kills, put}
 use Rattle.fx_item.specs.declared.item.Item.TheVariants as item
 use Rattle.fx_script.specs.declared.job.Job.{Job}
@@ -139,3 +140,7 @@ module _ (job : Job) (ps : List ℕ) (p : ℕ) (w : World) (on : up (job_setup j
     spoken = subst (λ (x : Ledger). Spoken x v) (sym ledger_now) (spoken_grows l m v grows (spoken_loses s l p w is.spoken));
     due = subst (λ (x : Ledger). due_kills x.stands x.kills ≡ due_kills x.stands ps) (sym ledger_now) (ap (λ (xs : List ℕ). due_kills m.stands (behind_first xs)) first);
   }
+
+  pub loses_votes : (e j q : ℕ) → vote_of (loses_legally.polls e j) q ≡ vote_of (is.polls e j) q
+  unfolding loses_legally
+  loses_votes e j q = ap (λ (x : Heard). x.vote) (kills_heard p q q (is.polls e j))
