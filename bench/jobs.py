@@ -60,6 +60,12 @@ def looped(turns, declared, body, behind):
     return head + f"for c 0 {turns - 1}\n" + body + "endfor\n" + behind + TAIL
 
 
+def meeting(ranks, turns):
+    """A job of so many ranks that meet at so many barriers."""
+    declared = f"fenix 1\nranks {ranks}\nspares 0\nseparation 1\narray a 16\ncounter c\nbegin\n"
+    return declared + f"for c 0 {turns - 1}\nbarrier\nendfor\n" + TAIL
+
+
 def filled(size, start, piece, behind):
     """A job of at most `size` bytes with `piece` again and again between a start and what is behind."""
     room = size - len(start) - len(behind)
@@ -103,6 +109,10 @@ def jobs():
         yield f"events_16_{count}", of_ranks(16, 200, drawn(16, count)), DONE
     for ranks, spares, kills in ((8, 8, 8), (4, 12, 12)):
         yield f"losses_{ranks}_{spares}_{kills}", losing(ranks, spares, kills), DONE
+
+    # Calls: many barriers, one after another.
+    for ranks, turns in ((4, 500), (16, 500), (16, 2_000)):
+        yield f"barriers_{ranks}_{turns}", meeting(ranks, turns), DONE
 
     # What is read alone: 17 ranks are refused at the second line.
     opened, closed = "when initial\n" * 64, "endwhen\n" * 64

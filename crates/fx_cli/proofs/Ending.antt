@@ -26,7 +26,7 @@ use Rattle.fx_fleet.specs.Runs.{wire_of, journal_of}
 use Rattle.fx_world.specs.declared.shown.Shown.{Shown}
 use Rattle.fx_world.specs.declared.shown.Shown.TheVariants as shown
 use Rattle.fx_world.specs.Texts.{shown_text, text_of}
-use Rattle.fx_cli.proofs.Legality.{is_legal, has_losses, all_ended, is_over}
+use Rattle.fx_cli.proofs.Legality.{AreLawful}
 use Rattle.fx_cli.proofs.Texts.{journal_text, wire_text}
 
 -- what came in, and what is due to it, written whole or in part
@@ -71,42 +71,12 @@ record IsUnfinishedRun (job : Job) (items : List Item) (sink sink' : SinkState) 
   built : first_unbuilt job ≡ None
   unfinished : is_left_unfinished job ≡ true
 
--- there is none
-none_unfinished : (job : Job) (items : List Item) (sink sink' : SinkState) → IsUnfinishedRun job items sink sink' → ⊥
-none_unfinished job items sink sink' run = apart (sym run.unfinished ∙ is_over job run.writable run.accepted run.built)
-  where
-    apart : true ≡ false → ⊥
-    apart e = cc
-
 -- how a run ends, by whether it is left unfinished
 abbrev end_by : Bool → Status
 end_by b = if b then Unfinished else Done
 
 abbrev RunEnds : Job → List Item → SinkState → SinkState → Status → Type 0
 RunEnds job items sink sink' s = IsDoneOrUnfinished (IsWholeRun job items sink sink') (IsUnfinishedRun job items sink sink') s
-
--- a run whose text was written ends so
-run_ends : (job : Job) (items : List Item) (sink sink' : SinkState) (b : Bool) → IsWritable job → IsAccepted job → first_unbuilt job ≡ None → is_left_unfinished job ≡ b →
-    Gains sink.written sink'.written (text_of items) → RunEnds job items sink sink' (end_by b)
-run_ends job items sink sink' true writable accepted built over gained = record {
-  writable = writable;
-  accepted = accepted;
-  built = built;
-  unfinished = over;
-}
-run_ends job items sink sink' false writable accepted built over gained = record {
-  built = built;
-  legal = is_legal job writable accepted built;
-  losses = has_losses job writable accepted built;
-  over = over;
-  ended = all_ended job writable accepted built;
-  gained = gained;
-}
-
-gains_same : (a b : Option (List ℕ)) (text other : List ℕ) → text ≡ other → Gains a b text → Gains a b other
-gains_same a b text other same gains = subst (λ (t : List ℕ). Gains a b t) same gains
-
--- ---- what is done, and what is left unfinished
 
 -- a call that ends unfinished has taken a job, and its words ask for a run, whose tail wasn't enough
 abbrev LeavesUnfinished : Option Mode → SourceState → SourceState → SinkState → SinkState → Type 0
@@ -125,110 +95,142 @@ EndsAs asked source source' sink sink' WriteFault = Unit {0}
 EndsAs asked source source' sink sink' NoMemory = Unit {0}
 EndsAs asked source source' sink sink' Unfinished = LeavesUnfinished asked source source' sink sink'
 
--- a refusal says nothing of it
-ends_refused : (asked : Option Mode) (source source' : SourceState) (sink sink' : SinkState) (s : Status) (refusal : Reason) (spot : Spot) →
-    s ≡ BadJob refusal spot → EndsAs asked source source' sink sink' s
-ends_refused asked source source' sink sink' s refusal spot e = subst (EndsAs asked source source' sink sink') (sym e) tt
+gains_same : (a b : Option (List ℕ)) (text other : List ℕ) → text ≡ other → Gains a b text → Gains a b other
+gains_same a b text other same gains = subst (λ (t : List ℕ). Gains a b t) same gains
 
-run_taken : (source source' : SourceState) (sink sink' : SinkState) (job : Job) (b : Bool) → Takes source source' job → RunEnds job (journal_of job) sink sink' (end_by b) →
-    EndsAs (Some mode.Run) source source' sink sink' (end_by b)
-run_taken source source' sink sink' job true taken run = (job, taken, run)
-run_taken source source' sink sink' job false taken run = (job, taken, run)
+-- ---- what is done, and what is left unfinished
 
-wire_taken : (source source' : SourceState) (sink sink' : SinkState) (job : Job) (b : Bool) → Takes source source' job → RunEnds job (wire_of job) sink sink' (end_by b) →
-    EndsAs (Some mode.Wire) source source' sink sink' (end_by b)
-wire_taken source source' sink sink' job true taken run = (job, taken, run)
-wire_taken source source' sink sink' job false taken run = (job, taken, run)
+-- with the laws of journals
+module _ (law : AreLawful) where
+  -- no run is left so
+  none_unfinished : (job : Job) (items : List Item) (sink sink' : SinkState) → IsUnfinishedRun job items sink sink' → ⊥
+  none_unfinished job items sink sink' run = apart (sym run.unfinished ∙ law.over job run.writable run.accepted run.built)
+    where
+      apart : true ≡ false → ⊥
+      apart e = cc
 
-run_done : (source source' : SourceState) (sink sink' : SinkState) (s : Status) (job : Job) (o : Option Spot) → Takes source source' job → first_unbuilt job ≡ o →
-    s ≡ (due_to_world shown.Journal job o).status → Gains sink.written sink'.written (due_to_world shown.Journal job o).output →
-    EndsAs (Some mode.Run) source source' sink sink' s
-run_done source source' sink sink' s job None taken built ends gained =
-    subst (EndsAs (Some mode.Run) source source' sink sink') (sym ends)
-    (run_taken source source' sink sink' job (is_left_unfinished job) taken
-    (run_ends job (journal_of job) sink sink' (is_left_unfinished job) taken.spelled.writable taken.accepted built refl (gains_same _ _ _ _ (journal_text job) gained)))
-run_done source source' sink sink' s job (Some spot) taken built ends gained = ends_refused (Some mode.Run) source source' sink sink' s NotBuilt spot ends
+  -- a run whose text was written ends so
+  run_ends : (job : Job) (items : List Item) (sink sink' : SinkState) (b : Bool) → IsWritable job → IsAccepted job → first_unbuilt job ≡ None → is_left_unfinished job ≡ b →
+      Gains sink.written sink'.written (text_of items) → RunEnds job items sink sink' (end_by b)
+  run_ends job items sink sink' true writable accepted built over gained = record {
+    writable = writable;
+    accepted = accepted;
+    built = built;
+    unfinished = over;
+  }
+  run_ends job items sink sink' false writable accepted built over gained = record {
+    built = built;
+    legal = law.legal job writable accepted built;
+    losses = law.losses job writable accepted built;
+    over = over;
+    ended = law.ended job writable accepted built;
+    gained = gained;
+  }
 
-wire_done : (source source' : SourceState) (sink sink' : SinkState) (s : Status) (job : Job) (o : Option Spot) → Takes source source' job → first_unbuilt job ≡ o →
-    s ≡ (due_to_world shown.Wire job o).status → Gains sink.written sink'.written (due_to_world shown.Wire job o).output →
-    EndsAs (Some mode.Wire) source source' sink sink' s
-wire_done source source' sink sink' s job None taken built ends gained =
-    subst (EndsAs (Some mode.Wire) source source' sink sink') (sym ends)
-    (wire_taken source source' sink sink' job (is_left_unfinished job) taken
-    (run_ends job (wire_of job) sink sink' (is_left_unfinished job) taken.spelled.writable taken.accepted built refl (gains_same _ _ _ _ (wire_text job) gained)))
-wire_done source source' sink sink' s job (Some spot) taken built ends gained = ends_refused (Some mode.Wire) source source' sink sink' s NotBuilt spot ends
+  -- a refusal says nothing of it
+  ends_refused : (asked : Option Mode) (source source' : SourceState) (sink sink' : SinkState) (s : Status) (refusal : Reason) (spot : Spot) →
+      s ≡ BadJob refusal spot → EndsAs asked source source' sink sink' s
+  ends_refused asked source source' sink sink' s refusal spot e = subst (EndsAs asked source source' sink sink') (sym e) tt
 
-check_done : (source source' : SourceState) (sink sink' : SinkState) (s : Status) (job : Job) → Takes source source' job → s ≡ Done →
-    Gains sink.written sink'.written (canonical job) → EndsAs (Some mode.Check) source source' sink sink' s
-check_done source source' sink sink' s job taken ends gained =
-    subst (EndsAs (Some mode.Check) source source' sink sink') (sym ends)
-    (job, taken, record { alone = canonical_alone job record { text = taken.text; told = job; spelled = taken.spelled; same = refl }; gained = gained })
+  run_taken : (source source' : SourceState) (sink sink' : SinkState) (job : Job) (b : Bool) → Takes source source' job → RunEnds job (journal_of job) sink sink' (end_by b) →
+      EndsAs (Some mode.Run) source source' sink sink' (end_by b)
+  run_taken source source' sink sink' job true taken run = (job, taken, run)
+  run_taken source source' sink sink' job false taken run = (job, taken, run)
 
-accepted_done : (source source' : SourceState) (sink sink' : SinkState) (s : Status) (asked : Mode) (job : Job) → Takes source source' job →
-    s ≡ (due_to_accepted asked job).status → Gains sink.written sink'.written (due_to_accepted asked job).output →
-    EndsAs (Some asked) source source' sink sink' s
-accepted_done source source' sink sink' s mode.Run job taken ends gained = run_done source source' sink sink' s job (first_unbuilt job) taken refl ends gained
-accepted_done source source' sink sink' s mode.Wire job taken ends gained = wire_done source source' sink sink' s job (first_unbuilt job) taken refl ends gained
-accepted_done source source' sink sink' s mode.Check job taken ends gained = check_done source source' sink sink' s job taken ends gained
+  wire_taken : (source source' : SourceState) (sink sink' : SinkState) (job : Job) (b : Bool) → Takes source source' job → RunEnds job (wire_of job) sink sink' (end_by b) →
+      EndsAs (Some mode.Wire) source source' sink sink' (end_by b)
+  wire_taken source source' sink sink' job true taken run = (job, taken, run)
+  wire_taken source source' sink sink' job false taken run = (job, taken, run)
 
-job_done : (source source' : SourceState) (sink sink' : SinkState) (s : Status) (asked : Mode) (text : List ℕ) (job : Job) (o : Option Refused) →
-    job_in text ≡ Ok job → refusal_of job ≡ o → length text ≤ longest_job → Loses source.left source'.left text → IsAtEnd source'.left →
-    s ≡ (due_to_job asked job o).status → Gains sink.written sink'.written (due_to_job asked job o).output →
-    EndsAs (Some asked) source source' sink sink' s
-job_done source source' sink sink' s asked text job None is fine short read end ends gained =
-    accepted_done source source' sink sink' s asked job (takes source source' text job is fine short read end) ends gained
-job_done source source' sink sink' s asked text job (Some refused) is fine short read end ends gained =
-    ends_refused (Some asked) source source' sink sink' s (Static refused.fault) refused.spot ends
+  run_done : (source source' : SourceState) (sink sink' : SinkState) (s : Status) (job : Job) (o : Option Spot) → Takes source source' job → first_unbuilt job ≡ o →
+      s ≡ (due_to_world shown.Journal job o).status → Gains sink.written sink'.written (due_to_world shown.Journal job o).output →
+      EndsAs (Some mode.Run) source source' sink sink' s
+  run_done source source' sink sink' s job None taken built ends gained =
+      subst (EndsAs (Some mode.Run) source source' sink sink') (sym ends)
+      (run_taken source source' sink sink' job (is_left_unfinished job) taken
+      (run_ends job (journal_of job) sink sink' (is_left_unfinished job) taken.spelled.writable taken.accepted built refl (gains_same _ _ _ _ (journal_text job) gained)))
+  run_done source source' sink sink' s job (Some spot) taken built ends gained = ends_refused (Some mode.Run) source source' sink sink' s NotBuilt spot ends
 
-text_done : (source source' : SourceState) (sink sink' : SinkState) (s : Status) (asked : Mode) (text : List ℕ) (r : Result Job Refusal) →
-    job_in text ≡ r → length text ≤ longest_job → Loses source.left source'.left text → IsAtEnd source'.left →
-    s ≡ (due_to_reading asked r).status → Gains sink.written sink'.written (due_to_reading asked r).output →
-    EndsAs (Some asked) source source' sink sink' s
-text_done source source' sink sink' s asked text (Ok job) is short read end ends gained =
-    job_done source source' sink sink' s asked text job (refusal_of job) is refl short read end ends gained
-text_done source source' sink sink' s asked text (Err r) is short read end ends gained = ends_refused (Some asked) source source' sink sink' s (Text r.fault) r.spot ends
+  wire_done : (source source' : SourceState) (sink sink' : SinkState) (s : Status) (job : Job) (o : Option Spot) → Takes source source' job → first_unbuilt job ≡ o →
+      s ≡ (due_to_world shown.Wire job o).status → Gains sink.written sink'.written (due_to_world shown.Wire job o).output →
+      EndsAs (Some mode.Wire) source source' sink sink' s
+  wire_done source source' sink sink' s job None taken built ends gained =
+      subst (EndsAs (Some mode.Wire) source source' sink sink') (sym ends)
+      (wire_taken source source' sink sink' job (is_left_unfinished job) taken
+      (run_ends job (wire_of job) sink sink' (is_left_unfinished job) taken.spelled.writable taken.accepted built refl (gains_same _ _ _ _ (wire_text job) gained)))
+  wire_done source source' sink sink' s job (Some spot) taken built ends gained = ends_refused (Some mode.Wire) source source' sink sink' s NotBuilt spot ends
 
-input_done : (words : List (List ℕ)) (source source' : SourceState) (sink sink' : SinkState) (s : Status) (input : Input) →
-    IsInput words source.left source'.left input → s ≡ (due_to input).status → Gains sink.written sink'.written (due_to input).output →
-    EndsAs (mode_of words) source source' sink sink' s
-input_done words source source' sink sink' s WrongWords is ends gained = subst (EndsAs (mode_of words) source source' sink sink') (sym ends) tt
-input_done words source source' sink sink' s TooLong is ends gained = ends_refused (mode_of words) source source' sink sink' s TooBig (record { line = 1; column = 1 }) ends
-input_done words source source' sink sink' s (Whole asked text) is ends gained =
-    subst (λ (o : Option Mode). EndsAs o source source' sink sink' s) (sym is.0)
-    (text_done source source' sink sink' s asked text (job_in text) refl is.1 is.2 is.3 ends gained)
+  check_done : (source source' : SourceState) (sink sink' : SinkState) (s : Status) (job : Job) → Takes source source' job → s ≡ Done →
+      Gains sink.written sink'.written (canonical job) → EndsAs (Some mode.Check) source source' sink sink' s
+  check_done source source' sink sink' s job taken ends gained =
+      subst (EndsAs (Some mode.Check) source source' sink sink') (sym ends)
+      (job, taken, record { alone = canonical_alone job record { text = taken.text; told = job; spelled = taken.spelled; same = refl }; gained = gained })
 
--- a call that is done has done what its words ask for
-pub is_done : (words : List (List ℕ)) (source source' : SourceState) (sink sink' : SinkState) (s : Status) →
-    Ends words source source' sink sink' s → s ≡ Done → DoesWhatIsAsked (mode_of words) source source' sink sink'
-is_done words source source' sink sink' Done e is = input_done words source source' sink sink' Done e.0 e.1 e.2 e.3
-is_done words source source' sink sink' BadWords e is = absurd cc
-is_done words source source' sink sink' (BadJob refusal spot) e is = absurd cc
-is_done words source source' sink sink' ReadFault e is = absurd cc
-is_done words source source' sink sink' WriteFault e is = absurd cc
-is_done words source source' sink sink' NoMemory e is = absurd cc
-is_done words source source' sink sink' Unfinished e is = absurd cc
+  accepted_done : (source source' : SourceState) (sink sink' : SinkState) (s : Status) (asked : Mode) (job : Job) → Takes source source' job →
+      s ≡ (due_to_accepted asked job).status → Gains sink.written sink'.written (due_to_accepted asked job).output →
+      EndsAs (Some asked) source source' sink sink' s
+  accepted_done source source' sink sink' s mode.Run job taken ends gained = run_done source source' sink sink' s job (first_unbuilt job) taken refl ends gained
+  accepted_done source source' sink sink' s mode.Wire job taken ends gained = wire_done source source' sink sink' s job (first_unbuilt job) taken refl ends gained
+  accepted_done source source' sink sink' s mode.Check job taken ends gained = check_done source source' sink sink' s job taken ends gained
 
--- a call that ends unfinished was asked for a run, whose tail wasn't enough
-is_unfinished : (words : List (List ℕ)) (source source' : SourceState) (sink sink' : SinkState) (s : Status) →
-    Ends words source source' sink sink' s → s ≡ Unfinished → LeavesUnfinished (mode_of words) source source' sink sink'
-is_unfinished words source source' sink sink' Done e is = absurd cc
-is_unfinished words source source' sink sink' BadWords e is = absurd cc
-is_unfinished words source source' sink sink' (BadJob refusal spot) e is = absurd cc
-is_unfinished words source source' sink sink' ReadFault e is = absurd cc
-is_unfinished words source source' sink sink' WriteFault e is = absurd cc
-is_unfinished words source source' sink sink' NoMemory e is = absurd cc
-is_unfinished words source source' sink sink' Unfinished e is = input_done words source source' sink sink' Unfinished e.0 e.1 e.2 e.3
+  job_done : (source source' : SourceState) (sink sink' : SinkState) (s : Status) (asked : Mode) (text : List ℕ) (job : Job) (o : Option Refused) →
+      job_in text ≡ Ok job → refusal_of job ≡ o → length text ≤ longest_job → Loses source.left source'.left text → IsAtEnd source'.left →
+      s ≡ (due_to_job asked job o).status → Gains sink.written sink'.written (due_to_job asked job o).output →
+      EndsAs (Some asked) source source' sink sink' s
+  job_done source source' sink sink' s asked text job None is fine short read end ends gained =
+      accepted_done source source' sink sink' s asked job (takes source source' text job is fine short read end) ends gained
+  job_done source source' sink sink' s asked text job (Some refused) is fine short read end ends gained =
+      ends_refused (Some asked) source source' sink sink' s (Static refused.fault) refused.spot ends
 
--- so no call does
-none_left : (asked : Option Mode) (source source' : SourceState) (sink sink' : SinkState) → LeavesUnfinished asked source source' sink sink' → ⊥
-none_left None source source' sink sink' left = left
-none_left (Some mode.Run) source source' sink sink' left = none_unfinished left.0 (journal_of left.0) sink sink' left.2
-none_left (Some mode.Wire) source source' sink sink' left = none_unfinished left.0 (wire_of left.0) sink sink' left.2
-none_left (Some mode.Check) source source' sink sink' left = left
+  text_done : (source source' : SourceState) (sink sink' : SinkState) (s : Status) (asked : Mode) (text : List ℕ) (r : Result Job Refusal) →
+      job_in text ≡ r → length text ≤ longest_job → Loses source.left source'.left text → IsAtEnd source'.left →
+      s ≡ (due_to_reading asked r).status → Gains sink.written sink'.written (due_to_reading asked r).output →
+      EndsAs (Some asked) source source' sink sink' s
+  text_done source source' sink sink' s asked text (Ok job) is short read end ends gained =
+      job_done source source' sink sink' s asked text job (refusal_of job) is refl short read end ends gained
+  text_done source source' sink sink' s asked text (Err r) is short read end ends gained = ends_refused (Some asked) source source' sink sink' s (Text r.fault) r.spot ends
 
-pub never_unfinished : (words : List (List ℕ)) (source source' : SourceState) (sink sink' : SinkState) (s : Status) →
-    Ends words source source' sink sink' s → s ≡ Unfinished → ⊥
-never_unfinished words source source' sink sink' s e is = none_left (mode_of words) source source' sink sink' (is_unfinished words source source' sink sink' s e is)
+  input_done : (words : List (List ℕ)) (source source' : SourceState) (sink sink' : SinkState) (s : Status) (input : Input) →
+      IsInput words source.left source'.left input → s ≡ (due_to input).status → Gains sink.written sink'.written (due_to input).output →
+      EndsAs (mode_of words) source source' sink sink' s
+  input_done words source source' sink sink' s WrongWords is ends gained = subst (EndsAs (mode_of words) source source' sink sink') (sym ends) tt
+  input_done words source source' sink sink' s TooLong is ends gained = ends_refused (mode_of words) source source' sink sink' s TooBig (record { line = 1; column = 1 }) ends
+  input_done words source source' sink sink' s (Whole asked text) is ends gained =
+      subst (λ (o : Option Mode). EndsAs o source source' sink sink' s) (sym is.0)
+      (text_done source source' sink sink' s asked text (job_in text) refl is.1 is.2 is.3 ends gained)
+
+  -- a call that is done has done what its words ask for
+  pub is_done : (words : List (List ℕ)) (source source' : SourceState) (sink sink' : SinkState) (s : Status) →
+      Ends words source source' sink sink' s → s ≡ Done → DoesWhatIsAsked (mode_of words) source source' sink sink'
+  is_done words source source' sink sink' Done e is = input_done words source source' sink sink' Done e.0 e.1 e.2 e.3
+  is_done words source source' sink sink' BadWords e is = absurd cc
+  is_done words source source' sink sink' (BadJob refusal spot) e is = absurd cc
+  is_done words source source' sink sink' ReadFault e is = absurd cc
+  is_done words source source' sink sink' WriteFault e is = absurd cc
+  is_done words source source' sink sink' NoMemory e is = absurd cc
+  is_done words source source' sink sink' Unfinished e is = absurd cc
+
+  -- a call that ends unfinished was asked for a run, whose tail wasn't enough
+  is_unfinished : (words : List (List ℕ)) (source source' : SourceState) (sink sink' : SinkState) (s : Status) →
+      Ends words source source' sink sink' s → s ≡ Unfinished → LeavesUnfinished (mode_of words) source source' sink sink'
+  is_unfinished words source source' sink sink' Done e is = absurd cc
+  is_unfinished words source source' sink sink' BadWords e is = absurd cc
+  is_unfinished words source source' sink sink' (BadJob refusal spot) e is = absurd cc
+  is_unfinished words source source' sink sink' ReadFault e is = absurd cc
+  is_unfinished words source source' sink sink' WriteFault e is = absurd cc
+  is_unfinished words source source' sink sink' NoMemory e is = absurd cc
+  is_unfinished words source source' sink sink' Unfinished e is = input_done words source source' sink sink' Unfinished e.0 e.1 e.2 e.3
+
+  -- so no call does
+  none_left : (asked : Option Mode) (source source' : SourceState) (sink sink' : SinkState) → LeavesUnfinished asked source source' sink sink' → ⊥
+  none_left None source source' sink sink' left = left
+  none_left (Some mode.Run) source source' sink sink' left = none_unfinished left.0 (journal_of left.0) sink sink' left.2
+  none_left (Some mode.Wire) source source' sink sink' left = none_unfinished left.0 (wire_of left.0) sink sink' left.2
+  none_left (Some mode.Check) source source' sink sink' left = left
+
+  pub never_unfinished : (words : List (List ℕ)) (source source' : SourceState) (sink sink' : SinkState) (s : Status) →
+      Ends words source source' sink sink' s → s ≡ Unfinished → ⊥
+  never_unfinished words source source' sink sink' s e is = none_left (mode_of words) source source' sink sink' (is_unfinished words source source' sink sink' s e is)
 
 -- a job that is refused since a line of it isn't built yet
 never_refused : (b : Bool) (refusal : Reason) (spot : Spot) → BadJob refusal spot ≡ end_by b → ⊥
@@ -367,47 +369,49 @@ not_bad_job refusal spot e = cc
 not_unfinished : Unfinished ≡ Done → ⊥
 not_unfinished e = cc
 
--- a job that is given and can be run is run, where what is due is these items of it
-answered_ran : (asked : Mode) (shown : Shown) (items : List Item) (words : List (List ℕ)) (source source' : SourceState) (sink sink' : SinkState) (s : Status) (job : Job) →
-    shown_text shown (wire_of job) ≡ text_of items → due_to_accepted asked job ≡ due_to_world shown job (first_unbuilt job) →
-    Answered words source source' sink sink' s → IsGiven asked words source job → first_unbuilt job ≡ None → RunEnds job items sink sink' s
-answered_ran asked shown items words source source' sink sink' s job text accepted e given built =
-    let due = given_is asked words source source' job given e.0 e.1 ∙ accepted ∙ ap (due_to_world shown job) built in
-    subst (RunEnds job items sink sink') (sym (other_status _ _ _ _ due e.2 refl))
-    (run_ends job items sink sink' (is_left_unfinished job) given.spelled.writable given.accepted built refl
-    (gains_same _ _ _ _ text (subst (λ (d : Due). Gains sink.written sink'.written d.output) due e.3)))
+-- with the laws of journals
+module _ (law : AreLawful) where
+  -- a job that is given and can be run is run, where what is due is these items of it
+  answered_ran : (asked : Mode) (shown : Shown) (items : List Item) (words : List (List ℕ)) (source source' : SourceState) (sink sink' : SinkState) (s : Status) (job : Job) →
+      shown_text shown (wire_of job) ≡ text_of items → due_to_accepted asked job ≡ due_to_world shown job (first_unbuilt job) →
+      Answered words source source' sink sink' s → IsGiven asked words source job → first_unbuilt job ≡ None → RunEnds job items sink sink' s
+  answered_ran asked shown items words source source' sink sink' s job text accepted e given built =
+      let due = given_is asked words source source' job given e.0 e.1 ∙ accepted ∙ ap (due_to_world shown job) built in
+      subst (RunEnds job items sink sink') (sym (other_status _ _ _ _ due e.2 refl))
+      (run_ends law job items sink sink' (is_left_unfinished job) given.spelled.writable given.accepted built refl
+      (gains_same _ _ _ _ text (subst (λ (d : Due). Gains sink.written sink'.written d.output) due e.3)))
 
-ran : (asked : Mode) (shown : Shown) (items : List Item) (words : List (List ℕ)) (source source' : SourceState) (sink sink' : SinkState) (s : Status) (job : Job) →
-    shown_text shown (wire_of job) ≡ text_of items → due_to_accepted asked job ≡ due_to_world shown job (first_unbuilt job) →
-    Ends words source source' sink sink' s → IsGiven asked words source job → first_unbuilt job ≡ None → RunEnds job items sink sink' s
-ran asked shown items words source source' sink sink' Done job text accepted e given built = answered_ran asked shown items words source source' sink sink' Done job text accepted e given built
-ran asked shown items words source source' sink sink' BadWords job text accepted e given built = answered_ran asked shown items words source source' sink sink' BadWords job text accepted e given built
-ran asked shown items words source source' sink sink' (BadJob refusal spot) job text accepted e given built =
-    answered_ran asked shown items words source source' sink sink' (BadJob refusal spot) job text accepted e given built
-ran asked shown items words source source' sink sink' ReadFault job text accepted e given built = tt
-ran asked shown items words source source' sink sink' WriteFault job text accepted e given built = tt
-ran asked shown items words source source' sink sink' NoMemory job text accepted e given built = tt
-ran asked shown items words source source' sink sink' Unfinished job text accepted e given built = answered_ran asked shown items words source source' sink sink' Unfinished job text accepted e given built
+  ran : (asked : Mode) (shown : Shown) (items : List Item) (words : List (List ℕ)) (source source' : SourceState) (sink sink' : SinkState) (s : Status) (job : Job) →
+      shown_text shown (wire_of job) ≡ text_of items → due_to_accepted asked job ≡ due_to_world shown job (first_unbuilt job) →
+      Ends words source source' sink sink' s → IsGiven asked words source job → first_unbuilt job ≡ None → RunEnds job items sink sink' s
+  ran asked shown items words source source' sink sink' Done job text accepted e given built = answered_ran asked shown items words source source' sink sink' Done job text accepted e given built
+  ran asked shown items words source source' sink sink' BadWords job text accepted e given built = answered_ran asked shown items words source source' sink sink' BadWords job text accepted e given built
+  ran asked shown items words source source' sink sink' (BadJob refusal spot) job text accepted e given built =
+      answered_ran asked shown items words source source' sink sink' (BadJob refusal spot) job text accepted e given built
+  ran asked shown items words source source' sink sink' ReadFault job text accepted e given built = tt
+  ran asked shown items words source source' sink sink' WriteFault job text accepted e given built = tt
+  ran asked shown items words source source' sink sink' NoMemory job text accepted e given built = tt
+  ran asked shown items words source source' sink sink' Unfinished job text accepted e given built = answered_ran asked shown items words source source' sink sink' Unfinished job text accepted e given built
 
--- and is done, since its tail is enough
-done_for : (job : Job) (items : List Item) (sink sink' : SinkState) (s : Status) → RunEnds job items sink sink' s → IsDoneUnlessCut (IsWholeRun job items sink sink') s
-done_for job items sink sink' Done run = run
-done_for job items sink sink' BadWords run = run
-done_for job items sink sink' (BadJob refusal spot) run = run
-done_for job items sink sink' ReadFault run = tt
-done_for job items sink sink' WriteFault run = tt
-done_for job items sink sink' NoMemory run = tt
-done_for job items sink sink' Unfinished run = none_unfinished job items sink sink' run
+  -- and is done, since its tail is enough
+  done_for : (job : Job) (items : List Item) (sink sink' : SinkState) (s : Status) → RunEnds job items sink sink' s → IsDoneUnlessCut (IsWholeRun job items sink sink') s
+  done_for job items sink sink' Done run = run
+  done_for job items sink sink' BadWords run = run
+  done_for job items sink sink' (BadJob refusal spot) run = run
+  done_for job items sink sink' ReadFault run = tt
+  done_for job items sink sink' WriteFault run = tt
+  done_for job items sink sink' NoMemory run = tt
+  done_for job items sink sink' Unfinished run = none_unfinished law job items sink sink' run
 
-pub is_ran : (words : List (List ℕ)) (source source' : SourceState) (sink sink' : SinkState) (s : Status) → Ends words source source' sink sink' s →
-    (job : Job) → IsGiven mode.Run words source job → first_unbuilt job ≡ None → IsDoneUnlessCut (IsRun job sink sink') s
-is_ran words source source' sink sink' s e job given built =
-    done_for job (journal_of job) sink sink' s (ran mode.Run shown.Journal (journal_of job) words source source' sink sink' s job (journal_text job) refl e given built)
+  pub is_ran : (words : List (List ℕ)) (source source' : SourceState) (sink sink' : SinkState) (s : Status) → Ends words source source' sink sink' s →
+      (job : Job) → IsGiven mode.Run words source job → first_unbuilt job ≡ None → IsDoneUnlessCut (IsRun job sink sink') s
+  is_ran words source source' sink sink' s e job given built =
+      done_for job (journal_of job) sink sink' s (ran mode.Run shown.Journal (journal_of job) words source source' sink sink' s job (journal_text job) refl e given built)
 
-pub is_wired : (words : List (List ℕ)) (source source' : SourceState) (sink sink' : SinkState) (s : Status) → Ends words source source' sink sink' s →
-    (job : Job) → IsGiven mode.Wire words source job → first_unbuilt job ≡ None → IsDoneUnlessCut (IsWired job sink sink') s
-is_wired words source source' sink sink' s e job given built =
-    done_for job (wire_of job) sink sink' s (ran mode.Wire shown.Wire (wire_of job) words source source' sink sink' s job (wire_text job) refl e given built)
+  pub is_wired : (words : List (List ℕ)) (source source' : SourceState) (sink sink' : SinkState) (s : Status) → Ends words source source' sink sink' s →
+      (job : Job) → IsGiven mode.Wire words source job → first_unbuilt job ≡ None → IsDoneUnlessCut (IsWired job sink sink') s
+  is_wired words source source' sink sink' s e job given built =
+      done_for job (wire_of job) sink sink' s (ran mode.Wire shown.Wire (wire_of job) words source source' sink sink' s job (wire_text job) refl e given built)
 
 -- a job that is given is printed
 pub is_printed : (words : List (List ℕ)) (source source' : SourceState) (sink sink' : SinkState) (s : Status) → Ends words source source' sink sink' s →

@@ -1,7 +1,7 @@
 pub mod Written
 pub mod Texts
 pub mod Marks
-pub mod Plain
+pub mod Sums
 pub mod Legality
 pub mod Runs
 pub mod Ending

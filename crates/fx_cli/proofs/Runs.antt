@@ -10,9 +10,9 @@ use Rattle.fx_sched.specs.declared.moment.Moment.{Moment}
 use Rattle.fx_sched.specs.Moments.{AreMoments, event_of, kind_of}
 use Rattle.fx_fleet.specs.Rounds as rounds
 use Rattle.fx_fleet.specs.Rounds.{all_happen, all_over, tail, whole}
-use Rattle.fx_fleet.specs.Runs.{AsksNothing, job_setup, moment_of, moments_of, rest_bound_of, wire_of}
+use Rattle.fx_fleet.specs.Runs.{job_setup, moment_of, moments_of, rest_bound_of, wire_of}
 use Rattle.fx_fleet.specs.World.{World, first_world}
-use Rattle.fx_node.proofs.Carried.{plain_is_carried}
+use Rattle.fx_node.specs.Asking.{AsksCarried}
 use Rattle.fx_world.specs.declared.counts.Counts.{Counts}
 use Rattle.fx_world.specs.declared.end.RunEnd.{RunEnd}
 use Rattle.fx_world.specs.declared.end.RunEnd.TheVariants as run_end
@@ -85,12 +85,12 @@ untold : (shown : Shown) (t : Told) → Tells shown t t []
 untold shown t = record { text = gains_none t.written; counts = refl }
 
 pub run_writes : (job : Job) (shown : Shown) (old new : Standings) (a b : SinkState) (ms : List Moment) (bound : ℕ) (answer : Result Counts RunEnd) →
-    AsksNothing job → IsWorldOf job old (first_world (job_setup job)) → AreMoments job ms → bound ≡ bound_of job → GoesWhole old new shown a b (in_run ms bound) answer →
+    AsksCarried job → IsWorldOf job old (first_world (job_setup job)) → AreMoments job ms → bound ≡ bound_of job → GoesWhole old new shown a b (in_run ms bound) answer →
     WritesRun job shown a b (dropped answer)
 run_writes job shown old new a b ms bound answer asks world are same goes = record {
   content = run_adds job shown new (told old a) (told new b) answer
       (subst (λ (w : World). RunLeaves job new shown (told old a) (told new b) w answer) (is_whole job ms bound are same)
-      (goes.leads job (first_world (job_setup job)) (told old a) (plain_is_carried job asks) world (untold shown (told old a))));
+      (goes.leads job (first_world (job_setup job)) (told old a) asks world (untold shown (told old a))));
   count_never_falls = goes.count_never_falls;
   failed_only_if_count_rose = fault_only a.faults b.faults answer goes.failed_only_if_count_rose;
 }

@@ -30,6 +30,7 @@ fn first_of(statement: &Stmt) -> Option<Spot>
 {
     match statement {
         Stmt::Let { .. } | Stmt::Set { .. } | Stmt::Print { .. } | Stmt::Register { .. } => None,
+        Stmt::Barrier { .. } | Stmt::Reduce { .. } => None,
         Stmt::RoleOnly { body, .. } => first_of_body(body.as_slice()),
         Stmt::Branch { yes, no, .. } => match no {
             None => first_of_body(yes.as_slice()),
@@ -42,6 +43,6 @@ fn first_of(statement: &Stmt) -> Option<Spot>
             }
         },
         Stmt::Loop { body, .. } => first_of_body(body.as_slice()),
-        outward => Some(outward.spot()),
+        other => Some(other.spot()),
     }
 }

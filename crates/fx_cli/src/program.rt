@@ -10,6 +10,7 @@ ghost use Rattle.fx_cli.specs.Ends.{DoesWhatIsAsked, Ends, IsCheck, IsDoneUnless
 
 use crate::built::first_unbuilt;
 use crate::canon::write_canonical;
+use crate::laws::journals_are_legal;
 use crate::mode::{Mode, mode_of};
 use crate::run::write_run;
 use crate::status::{Refusal, Status, reason_of};
@@ -62,6 +63,7 @@ pub fn fenix<S: Source, K: Sink>(
     ensures source_count_never_falls { (S.state source.old).faults ≤ (S.state source.new).faults }
     ensures sink_count_never_falls { (K.state sink.old).faults ≤ (K.state sink.new).faults }
 {
+    journals_are_legal();
     call(alloc, words, source, sink)
 }
 

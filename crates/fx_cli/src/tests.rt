@@ -30,6 +30,12 @@ const WIRE_OF_A_KILL: &str =
 const A_BARRIER: &str =
     "fenix 1\nranks 2\nspares 0\nseparation 1\nbegin\nbarrier\nend\nschedule\nstop\n";
 
+const JOURNAL_OF_A_BARRIER: &str =
+    "join 0 1 start\njoin 1 1 start\nrepaired 1 1 2 full : 0=0 1=1\ninit 1 1 initial 1 1 2 full\nbarrier 1 1 1\nrepaired 0 1 2 full : 0=0 1=1\ninit 0 1 initial 0 0 2 full\nbarrier 0 1 1\npassed 0 1 1\njoin 0 2 final\npassed 1 1 1\njoin 1 2 final\nended 1\nended 0\n";
+
+const AN_AGREEMENT: &str =
+    "fenix 1\nranks 2\nspares 0\nseparation 1\narray a 1\ncounter c\nbegin\nagree c a 0\nend\nschedule\nstop\n";
+
 const SPACED: &str =
     "fenix 1\nranks 1\nspares  0\nseparation 1\narray a 3\n# note\nbegin\nprint a\nprint a\nend\nschedule\nstop\n";
 
@@ -106,11 +112,12 @@ fn texts_are_answered(rt: HostRuntime) -> Result<(), Fail> {
         ("run", TWO_RANKS, Status::Done, JOURNAL_OF_TWO),
         ("wire", TWO_PRINTS, Status::Done, JOURNAL),
         ("wire", TWO_RANKS, Status::Done, WIRE_OF_TWO),
+        ("run", A_BARRIER, Status::Done, JOURNAL_OF_A_BARRIER),
         (
             "run",
-            A_BARRIER,
-            unbuilt(6),
-            "fenix: bad job: NotBuilt at 6:1\n",
+            AN_AGREEMENT,
+            unbuilt(8),
+            "fenix: bad job: NotBuilt at 8:1\n",
         ),
         ("wire", A_KILL, Status::Done, WIRE_OF_A_KILL),
         (

@@ -4,13 +4,13 @@ use fx_cli::{code, fenix_in_memory};
 use std::alloc::Global;
 use std::test::Fail;
 
-// A row: what it shows, the words, the source, all that is written, and the code. A bar stands for a line end.
-struct Row {
-    shows: &'static str,
-    words: &'static str,
-    source: &'static str,
-    written: &'static str,
-    code: u8,
+/// A row: what it shows, the words, the source, all that is written, and the code. A bar stands for a line end.
+pub struct Row {
+    pub shows: &'static str,
+    pub words: &'static str,
+    pub source: &'static str,
+    pub written: &'static str,
+    pub code: u8,
 }
 
 const RUN_ROWS: [Row; 13] = [
@@ -85,23 +85,23 @@ const RUN_ROWS: [Row; 13] = [
         code: 0,
     },
     Row {
-        shows: "a barrier of two ranks",
+        shows: "an agreement of two ranks",
         words: "run",
-        source: "fenix 1|ranks 2|spares 0|separation 1|begin|barrier|end|schedule|stop|",
-        written: "fenix: bad job: NotBuilt at 6:1|",
-        code: 3,
-    },
-    Row {
-        shows: "a barrier inside a loop",
-        words: "run",
-        source: "fenix 1|ranks 1|spares 0|separation 1|counter c|begin|for c 0 1|print c|barrier|endfor|end|schedule|stop|",
+        source: "fenix 1|ranks 2|spares 0|separation 1|array a 1|counter c|begin|barrier|agree c a 0|end|schedule|stop|",
         written: "fenix: bad job: NotBuilt at 9:1|",
         code: 3,
     },
     Row {
-        shows: "a barrier behind `else`",
+        shows: "a shift inside a loop",
         words: "run",
-        source: "fenix 1|ranks 1|spares 0|separation 1|counter c|begin|if lt c 1|print c|else|barrier|endif|end|schedule|stop|",
+        source: "fenix 1|ranks 1|spares 0|separation 1|array a 1|counter c|begin|for c 0 1|print c|shift a a 1|endfor|end|schedule|stop|",
+        written: "fenix: bad job: NotBuilt at 10:1|",
+        code: 3,
+    },
+    Row {
+        shows: "a data group behind `else`",
+        words: "run",
+        source: "fenix 1|ranks 1|spares 0|separation 1|counter c|begin|if lt c 1|print c|else|group 0 0 0|endif|end|schedule|stop|",
         written: "fenix: bad job: NotBuilt at 10:1|",
         code: 3,
     },
@@ -256,8 +256,8 @@ fn words_of(alloc: Global, line: &str) -> Result<Vec<String>, Fail> {
     Ok(words)
 }
 
-// The code and all that is written.
-fn answer_to(alloc: Global, row: &Row) -> Result<(u8, Bytes), Fail> {
+/// The code and all that is written.
+pub fn answer_to(alloc: Global, row: &Row) -> Result<(u8, Bytes), Fail> {
     let words = words_of(alloc, row.words)?;
     let source = bytes_of(alloc, &[row.source])?;
     let (status, sink) = fenix_in_memory(alloc, words.as_slice(), source);

@@ -9,6 +9,8 @@ mod bodies;
 #[cfg(test)]
 mod calls;
 #[cfg(test)]
+mod collectives;
+#[cfg(test)]
 mod lines;
 #[cfg(test)]
 mod schedules;

@@ -4,7 +4,7 @@ use Rattle.fx_cli.proofs.program.fenix.Goals as goal
 
 pub returns-clause-done : goal.returns-clause-done
 returns-clause-done g c =
-    is_done (map string_bytes c.args.words.now) (g.S.Source.state c.args.source.now) (g.S.Source.state c.call.new.source)
+    is_done (record { legal = c.journals_are_legal.ensures.legal; losses = c.journals_are_legal.ensures.losses; over = c.journals_are_legal.ensures.over; ended = c.journals_are_legal.ensures.whole }) (map string_bytes c.args.words.now) (g.S.Source.state c.args.source.now) (g.S.Source.state c.call.new.source)
     (g.K.Sink.state c.args.sink.now) (g.K.Sink.state c.call.new.sink) c.call.result c.call.ensures.ends
 
 pub returns-clause-not_built_is_accepted : goal.returns-clause-not_built_is_accepted
@@ -19,7 +19,7 @@ returns-clause-status_is_due g c =
 
 pub returns-clause-jobs_are_run : goal.returns-clause-jobs_are_run
 returns-clause-jobs_are_run g c =
-    is_ran (map string_bytes c.args.words.now) (g.S.Source.state c.args.source.now) (g.S.Source.state c.call.new.source)
+    is_ran (record { legal = c.journals_are_legal.ensures.legal; losses = c.journals_are_legal.ensures.losses; over = c.journals_are_legal.ensures.over; ended = c.journals_are_legal.ensures.whole }) (map string_bytes c.args.words.now) (g.S.Source.state c.args.source.now) (g.S.Source.state c.call.new.source)
     (g.K.Sink.state c.args.sink.now) (g.K.Sink.state c.call.new.sink) c.call.result c.call.ensures.ends
 
 pub returns-clause-accepted_jobs_are_printed : goal.returns-clause-accepted_jobs_are_printed
@@ -29,10 +29,10 @@ returns-clause-accepted_jobs_are_printed g c =
 
 pub returns-clause-never_unfinished : goal.returns-clause-never_unfinished
 returns-clause-never_unfinished g c =
-    never_unfinished (map string_bytes c.args.words.now) (g.S.Source.state c.args.source.now) (g.S.Source.state c.call.new.source)
+    never_unfinished (record { legal = c.journals_are_legal.ensures.legal; losses = c.journals_are_legal.ensures.losses; over = c.journals_are_legal.ensures.over; ended = c.journals_are_legal.ensures.whole }) (map string_bytes c.args.words.now) (g.S.Source.state c.args.source.now) (g.S.Source.state c.call.new.source)
     (g.K.Sink.state c.args.sink.now) (g.K.Sink.state c.call.new.sink) c.call.result c.call.ensures.ends
 
 pub returns-clause-jobs_are_wired : goal.returns-clause-jobs_are_wired
 returns-clause-jobs_are_wired g c =
-    is_wired (map string_bytes c.args.words.now) (g.S.Source.state c.args.source.now) (g.S.Source.state c.call.new.source)
+    is_wired (record { legal = c.journals_are_legal.ensures.legal; losses = c.journals_are_legal.ensures.losses; over = c.journals_are_legal.ensures.over; ended = c.journals_are_legal.ensures.whole }) (map string_bytes c.args.words.now) (g.S.Source.state c.args.source.now) (g.S.Source.state c.call.new.source)
     (g.K.Sink.state c.args.sink.now) (g.K.Sink.state c.call.new.sink) c.call.result c.call.ensures.ends
