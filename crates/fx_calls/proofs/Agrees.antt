@@ -42,7 +42,6 @@ use Rattle.fx_losses.proofs.Tests.{some_slot}
 use Rattle.fx_calls.proofs.Hearings.{Polls, TrueText}
 use Rattle.fx_calls.proofs.Polled.{is_balloting, told_more, NodePolls, FirstReturn, Polled, Heeds}
 use Rattle.fx_calls.proofs.Linked.{Linked, Links}
-use Rattle.fx_machine.specs.Nodes.{to_others}
 use Rattle.fx_fleet.specs.World.{sent_to}
 use Rattle.fx_calls.specs.Bodies.{IsOfParts}
 use Rattle.fx_calls.proofs.Delivered.{gives_none, stream, is_no_join, no_join_ordered}
@@ -84,8 +83,9 @@ use Rattle.fx_losses.proofs.Texts.{put_same, put_other}
 use Rattle.fx_calls.proofs.Decided.{read_more, none_read}
 use Rattle.fx_calls.proofs.Hearings as hearings
 use Rattle.fx_calls.proofs.Hearings.{PollsGrow, vote_said, estimate_said, read_own}
-use Rattle.fx_calls.proofs.Heeding.{at_call, call_here, call_far, OneCall, heeds_one, one_told, one_grows}
-use Rattle.fx_calls.proofs.Polled.{InPoll, IsFlag, flag_grows}
+use Rattle.fx_calls.proofs.Heeding.{at_call, call_here, call_far, OneCall, heeds_one, one_told, one_grows, one_phases}
+use Rattle.fx_calls.proofs.Polled.{InPoll, IsFlag, flag_grows, SaysOf, Told, IsTold, says_the_same}
+use Rattle.fx_calls.proofs.Sayings.{says_none, says_vote, says_estimate}
 use Rattle.fx_calls.proofs.Standing.{still_stands}
 use Rattle.fx_calls.proofs.Stepped.{still_in_step}
 use Rattle.fx_ballot.specs.declared.poll.Poll.{Poll}
@@ -107,9 +107,7 @@ use Rattle.fx_machine.specs.Nodes.{silently}
 use Rattle.fx_machine.specs.Waits.{first_error, all_agree}
 use Rattle.fx_walk.specs.Plan.{Barrier, Agree, Group, Attach, Store, Commit, Close, Restore, Delete}
 use Rattle.fx_calls.proofs.Decided.{ErrorAt, error_at, IsOwed, error_of, true_error, FlagAt, flag_at, bits_are, slot_there}
-use Rattle.fx_calls.proofs.Heeding.{one_phases}
 use Rattle.fx_calls.proofs.Parts.{all_asked}
-use Rattle.fx_calls.proofs.Polled.{SaysOf, Told, IsTold, says_the_same}
 use Rattle.fx_calls.proofs.Owed.{Facts}
 use Rattle.fx_calls.proofs.Walks as walks
 use Rattle.fx_calls.proofs.Gathers as gathers
@@ -288,6 +286,7 @@ module _ (job : Job) (w : World) (z : ℕ → ballot.World) (fate : ℕ → Opti
         heeds_one w p voting_act l behind_agree polls in_polls agree_grows refl d call behind_vote one_vote (one_told w p voting_act l behind_agree polls in_polls agree_grows refl d call behind_vote one_vote refl) voted_polls
         (kept_true (TrueText polls_voted) n.me n.texts vote_said_now (subst (λ (o : ℕ). vote_of (polls_voted d call) o ≡ Some (slot.Flag flag)) (sym own) said) (λ c. hearings.texts_grow polls polls_voted grows c (n.texts c) (in_polls.texts p c)))
         (λ b. others_true (TrueText polls_voted p) vote_said_now said n.me b (members n))
+        (says_vote p voting_act l d call before_vote behind_vote n.me own (members n) (procs_here walks_out) (slot.Flag flag) refl (estimate_now ∙ sym no_estimate))
       where
         said : vote_of (at_call d (suc n.calls) (enters (λ o. false) p (slot.Flag flag) (polls d (suc n.calls))) polls d (suc n.calls)) p ≡ Some (slot.Flag flag)
         said = ap (λ (x : ballot.World). vote_of x p) (call_here d call behind_vote polls) ∙ vote_now
@@ -539,7 +538,8 @@ module _ (job : Job) (w : World) (z : ℕ → ballot.World) (fate : ℕ → Opti
           (goes_polls phase poll.Moved e refl (moves n balloting phase).node refl refl refl refl (shape_now phase poll.Moved e refl).0 (shape_now phase poll.Moved e refl).1 here_polls.vote
           (here_polls.estimate ∙ sym same))
           (λ c. hearings.texts_grow polls (all_now phase poll.Moved e refl) (one_grows w p (moves n balloting phase) l l polls in_polls (grows_none l) refl d n.calls (poll_now phase poll.Moved e refl) one) c (n.texts c) (in_polls.texts p c))
-          (λ b. tt);
+          (λ b. tt)
+          (says_none p (moves n balloting phase) l d n.calls at_poll (poll_now phase poll.Moved e refl) (votes_now phase poll.Moved e refl p) same);
       gives = gives_none s p (moves n balloting phase) w l l refl (λ c ne. refl) (λ b. tt);
     }
       where
@@ -612,7 +612,8 @@ module _ (job : Job) (w : World) (z : ℕ → ballot.World) (fate : ℕ → Opti
             ∙ this_estimate d n.calls (seat_of (members n) p) slots ∙ sym said_now))
             (kept_true (TrueText all_spoken) n.me n.texts says (subst (λ (o : ℕ). estimate_of (all_spoken d n.calls) o ≡ Some slots) (sym own) says_true)
             (λ c. hearings.texts_grow polls all_spoken (one_grows w p speak_act l l polls in_polls (grows_none l) refl d n.calls spoken_world one_spoken) c (n.texts c) (in_polls.texts p c)))
-            (λ b. others_true (TrueText all_spoken p) says says_true n.me b (members n));
+            (λ b. others_true (TrueText all_spoken p) says says_true n.me b (members n))
+            (says_estimate p speak_act l d n.calls at_poll spoken_world n.me own (members n) who_is slots refl (votes_now next_phase (poll.SendEstimate slots) e refl p));
         gives = gives_none s p speak_act w l l refl (λ c ne. put_other n.texts n.me c (n.texts n.me ++ says ∷ []) (λ i. ne (i ∙ own))) (λ b. others_true (λ x. is_no_join x ≡ true) says refl n.me b (members n));
       }
 
@@ -705,7 +706,7 @@ module _ (job : Job) (w : World) (z : ℕ → ballot.World) (fate : ℕ → Opti
       heeds_last it m g grows joined returns it_says epoch after texts =
           heeds_one w p (nodes.writing (it ∷ []) m) l g polls in_polls grows joined d n.calls last_world (one_last g grows) (told_last it g grows joined returns it_says) (last_polls m epoch after)
           (λ c. hearings.texts_grow polls all_last (one_grows w p (nodes.writing (it ∷ []) m) l g polls in_polls grows joined d n.calls last_world (one_last g grows)) c (m.texts c) (subst (Each (TrueText polls c)) (sym (texts c)) (in_polls.texts p c)))
-          (λ b. tt)
+          (λ b. tt) (says_none p (nodes.writing (it ∷ []) m) l d n.calls at_poll last_world (votes_now last_phase (poll.Decided slots) e refl p) same_last)
 
       -- an error
       module _ (error : Error) (is_error : first_error (members (w.node p)) slots ≡ Some error) where

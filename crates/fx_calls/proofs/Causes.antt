@@ -32,9 +32,10 @@ use Rattle.fx_losses.proofs.Voted.{losses_more}
 use Rattle.fx_calls.specs.Bodies.{IsOfNoGroup, IsOfSums, IsUnshifted, OnlyAsks, AsksNoGroups}
 use Rattle.fx_calls.proofs.Bodies.{asks_more, unshifted_of_no_group}
 use Rattle.fx_calls.proofs.Deeds.{deed_does}
-use Rattle.fx_calls.proofs.Legally.{Legally, noted_more, acts_legally, acts_polls}
+use Rattle.fx_calls.proofs.Legally.{Legally, noted_more, acts_legally, acts_polls, acts_said}
 use Rattle.fx_calls.proofs.Hearings.{Polls, PollsGrow}
 use Rattle.fx_calls.proofs.Owed.{Does}
+use Rattle.fx_calls.proofs.Saying.{Said}
 use Rattle.fx_calls.proofs.Plans.{PlanAt, HavePlans, Grows, plan_grows, same_comm, still_begun, some_of}
 
 -- ---- causes
@@ -78,6 +79,7 @@ pub record CausedOf (May : Wanted → Type 0) (job : Job) (ps : List ℕ) (w : W
   pub causes : Causes May job w (ledger_of job (noted w.items))
   pub voted : HaveVoted (ledger_of job (noted w.items)) legally.polls
   pub losses : RepairLosses job (first_ledger job) (noted w.items)
+  pub said : Said (job_setup job) w (ledger_of job (noted w.items)) legally.polls
 
 abbrev pub Caused : Job → List ℕ → World → Type 0
 Caused job ps w = CausedOf IsOfSums job ps w
@@ -181,6 +183,7 @@ module _ (May : Wanted → Type 0) (less : (v : Wanted) → May v → IsUnshifte
           (λ y ne alive at. loss_grows l m g (w.node y).epoch (causes.failures y alive at)) q;
       sums = λ q. each_node s p act w (λ y node. w.killed y ≡ false → AsksAt May node.stage node.walk) (λ alive. sums) (λ y ne alive. causes.sums y alive) q;
     });
+    said = acts_said job rules planned (no_groups May less job asks) ps p w act on e is caused.said;
     losses = subst (RepairLosses job (first_ledger job)) (sym more) (losses_more job (first_ledger job) (noted w.items) (noted act.items) caused.losses losses);
   }
     where

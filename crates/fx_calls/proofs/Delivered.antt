@@ -141,7 +141,7 @@ module _ (job : Job) (s : Setup) (p : ℕ) (act : Act) (w : World) (l m : Ledger
   abbrev v_now : World
   v_now = does s p act w
 
-  before_up : (b : ℕ) → up s (does s p act w) b ≡ true → up s w b ≡ true
+  pub before_up : (b : ℕ) → up s (does s p act w) b ≡ true → up s w b ≡ true
   before_up b u = up_before s p act w b here u
 
   not_own : (a : ℕ) → a ≢ p → (a == p) ≡ false
@@ -151,7 +151,7 @@ module _ (job : Job) (s : Setup) (p : ℕ) (act : Act) (w : World) (l m : Ledger
   own_test a = grind (arith, nat_tests)
 
   -- what comes from another is as it was
-  stream_other : (a b : ℕ) → a ≢ p → stream (does s p act w) a b ≡ stream w a b
+  pub stream_other : (a b : ℕ) → a ≢ p → stream (does s p act w) a b ≡ stream w a b
   stream_other a b ne = λ i. texts i ++ (if not_own a ne i && up s w b then w.link a b ++ sent_to b act.sends else w.link a b)
     where
       texts : ((does s p act w).node b).texts a ≡ (w.node b).texts a
@@ -160,7 +160,7 @@ module _ (job : Job) (s : Setup) (p : ℕ) (act : Act) (w : World) (l m : Ledger
         | inr apart ↦ ap (λ (n : Node). n.texts a) (node_other s p act w b apart)
       ]
 
-  stream_own : (b : ℕ) → up s w b ≡ true → b ≢ p → stream (does s p act w) p b ≡ stream w p b ++ sent_to b act.sends
+  pub stream_own : (b : ℕ) → up s w b ≡ true → b ≢ p → stream (does s p act w) p b ≡ stream w p b ++ sent_to b act.sends
   stream_own b u ne =
       (λ i. (node_other s p act w b ne i).texts p ++ (if own_test p i && u i then w.link p b ++ sent_to b act.sends else w.link p b))
       ∙ sym (append_assoc ((w.node b).texts p) (w.link p b) (sent_to b act.sends))
@@ -223,81 +223,73 @@ gives_none s p act w l m same other sends = record {
 
 -- ---- deliveries, notices and losses
 
+both_same : (x y : ℕ) → ((x == x) && (y == y)) ≡ true
+both_same x y = grind (arith, nat_tests)
+
+apart_of : (x y u v : ℕ) → x ≢ u → ((x == u) && (y == v)) ≡ false
+apart_of x y u v ne = grind (arith, nat_tests)
+
+apart_to : (x y u v : ℕ) → y ≢ v → ((x == u) && (y == v)) ≡ false
+apart_to x y u v ne = grind (arith, nat_tests)
+
+-- a text that is received stands where it stood
+module _ (a b : ℕ) (t : Text) (rest : List Text) (w : World) (me : (w.node b).me ≡ b) (front : w.link a b ≡ t ∷ rest) where
+  from_other : (x y m : ℕ) → m ≡ y → x ≢ y → (x == m) ≡ false
+  from_other x y m e ne = grind (arith, nat_tests)
+
+  texts_of : (c : ℕ) → c ≢ a → (receives a t (w.node b)).texts c ≡ (w.node b).texts c
+  texts_of c ne = chosen (λ (f : ℕ → List Text). f c ≡ (w.node b).texts c) (a == (w.node b).me) (w.node b).texts (put (w.node b).texts a ((w.node b).texts a ++ t ∷ [])) (λ e. refl) (λ e. put_other (w.node b).texts a c ((w.node b).texts a ++ t ∷ []) ne)
+
+  pub stream_receives : (c q : ℕ) → c ≢ q → stream (receives_front a b (t ∷ rest) w) c q ≡ stream w c q
+  stream_receives c q ne = elim (cases_eq q b) [
+    | inl to ↦ elim (cases_eq c a) [
+      | inl of ↦
+          subst (λ o. stream (receives_front a b (t ∷ rest) w) c o ≡ stream w c o) (sym to) (subst (λ o. stream (receives_front a b (t ∷ rest) w) o b ≡ stream w o b) (sym of) (here (λ i. ne (of ∙ i ∙ sym to))))
+      | inr far ↦
+          subst (λ o. stream (receives_front a b (t ∷ rest) w) c o ≡ stream w c o) (sym to)
+          (λ i. (ap (λ (n : Node). n.texts c) (put_same w.node b (receives a t (w.node b))) ∙ texts_of c far) i ++ (if apart_of c b a b far i then rest else w.link c b))
+    ]
+    | inr far ↦ λ i. (put_other w.node b q (receives a t (w.node b)) far i).texts c ++ (if apart_to c q a b far i then rest else w.link c q)
+  ]
+    where
+      here : a ≢ b → stream (receives_front a b (t ∷ rest) w) a b ≡ stream w a b
+      here apart =
+          (λ i. (ap (λ (n : Node). n.texts a) (put_same w.node b (receives a t (w.node b))) ∙ ap (λ (x : Bool). (if x then (w.node b).texts else put (w.node b).texts a ((w.node b).texts a ++ t ∷ [])) a) (from_other a b (w.node b).me me apart)
+          ∙ put_same (w.node b).texts a ((w.node b).texts a ++ t ∷ [])) i ++ (if both_same a b i then rest else w.link a b))
+          ∙ append_assoc ((w.node b).texts a) (t ∷ []) rest ∙ ap (λ (o : List Text). (w.node b).texts a ++ o) (sym front)
+
 pub delivered_receives : (s : Setup) (l : Ledger) (a b : ℕ) (t : Text) (rest : List Text) (w : World) → up s w b ≡ true → (w.node b).me ≡ b → w.link a b ≡ t ∷ rest → ((q : ℕ) → up s (receives_front a b (t ∷ rest) w) q ≡ true → up s w q ≡ true)
     → Delivered s w l → Delivered s (receives_front a b (t ∷ rest) w) l
 delivered_receives s l a b t rest w on me front back h = record {
-  there = λ c q e k v living u ne is parts place. subst (λ (o : List Text). has_part e k o ≡ true) (sym (same c q ne)) (h.there c q e k v living (back q u) ne is parts place);
-  ordered = λ c q u ne. subst (Ordered l c q []) (sym (same c q ne)) (h.ordered c q (back q u) ne);
+  there = λ c q e k v living u ne is parts place. subst (λ (o : List Text). has_part e k o ≡ true) (sym (stream_receives a b t rest w me front c q ne)) (h.there c q e k v living (back q u) ne is parts place);
+  ordered = λ c q u ne. subst (Ordered l c q []) (sym (stream_receives a b t rest w me front c q ne)) (h.ordered c q (back q u) ne);
 }
-  where
-    later : World
-    later = receives_front a b (t ∷ rest) w
 
-    from_other : (x y m : ℕ) → m ≡ y → x ≢ y → (x == m) ≡ false
-    from_other x y m e ne = grind (arith, nat_tests)
+-- behind a notice of a loss all stands where it stood but what was under way from there
+module _ (a b : ℕ) (w : World) where
+  told_texts : (q c : ℕ) → ((learns a b w).node q).texts c ≡ (w.node q).texts c
+  told_texts q c = elim (cases_eq q b) [
+    | inl to ↦ subst (λ o. ((learns a b w).node o).texts c ≡ (w.node o).texts c) (sym to) (ap (λ (n : Node). n.texts c) (put_same w.node b (is_told a (w.node b))))
+    | inr far ↦ ap (λ (n : Node). n.texts c) (put_other w.node b q (is_told a (w.node b)) far)
+  ]
 
-    both_same : (x y : ℕ) → ((x == x) && (y == y)) ≡ true
-    both_same x y = grind (arith, nat_tests)
-
-    apart_of : (x y u v : ℕ) → x ≢ u → ((x == u) && (y == v)) ≡ false
-    apart_of x y u v ne = grind (arith, nat_tests)
-
-    apart_to : (x y u v : ℕ) → y ≢ v → ((x == u) && (y == v)) ≡ false
-    apart_to x y u v ne = grind (arith, nat_tests)
-
-    texts_of : (c : ℕ) → c ≢ a → (receives a t (w.node b)).texts c ≡ (w.node b).texts c
-    texts_of c ne = chosen (λ (f : ℕ → List Text). f c ≡ (w.node b).texts c) (a == (w.node b).me) (w.node b).texts (put (w.node b).texts a ((w.node b).texts a ++ t ∷ [])) (λ e. refl) (λ e. put_other (w.node b).texts a c ((w.node b).texts a ++ t ∷ []) ne)
-
-    same : (c q : ℕ) → c ≢ q → stream (receives_front a b (t ∷ rest) w) c q ≡ stream w c q
-    same c q ne = elim (cases_eq q b) [
-      | inl to ↦ elim (cases_eq c a) [
-        | inl of ↦
-            subst (λ o. stream (receives_front a b (t ∷ rest) w) c o ≡ stream w c o) (sym to) (subst (λ o. stream (receives_front a b (t ∷ rest) w) o b ≡ stream w o b) (sym of) (here (λ i. ne (of ∙ i ∙ sym to))))
-        | inr far ↦
-            subst (λ o. stream (receives_front a b (t ∷ rest) w) c o ≡ stream w c o) (sym to)
-            (λ i. (ap (λ (n : Node). n.texts c) (put_same w.node b (receives a t (w.node b))) ∙ texts_of c far) i ++ (if apart_of c b a b far i then rest else w.link c b))
-      ]
-      | inr far ↦ λ i. (put_other w.node b q (receives a t (w.node b)) far i).texts c ++ (if apart_to c q a b far i then rest else w.link c q)
-    ]
-      where
-        here : a ≢ b → stream (receives_front a b (t ∷ rest) w) a b ≡ stream w a b
-        here apart =
-            (λ i. (ap (λ (n : Node). n.texts a) (put_same w.node b (receives a t (w.node b))) ∙ ap (λ (x : Bool). (if x then (w.node b).texts else put (w.node b).texts a ((w.node b).texts a ++ t ∷ [])) a) (from_other a b (w.node b).me me apart)
-            ∙ put_same (w.node b).texts a ((w.node b).texts a ++ t ∷ [])) i ++ (if both_same a b i then rest else w.link a b))
-            ∙ append_assoc ((w.node b).texts a) (t ∷ []) rest ∙ ap (λ (o : List Text). (w.node b).texts a ++ o) (sym front)
+  pub stream_learns : (c q : ℕ) → c ≢ a → stream (learns a b w) c q ≡ stream w c q
+  stream_learns c q far = λ i. told_texts q c i ++ (if apart_of c q a b far i then [] else w.link c q)
 
 pub delivered_learns : (s : Setup) (l : Ledger) (a b : ℕ) (w : World) → w.killed a ≡ true → ((q : ℕ) → up s (learns a b w) q ≡ true → up s w q ≡ true) → Delivered s w l → Delivered s (learns a b w) l
 delivered_learns s l a b w dead back h = record {
-  there = λ c q e k v living u ne is parts place. subst (λ (o : List Text). has_part e k o ≡ true) (sym (same c q (λ i. let bad : true ≡ false = sym dead ∙ ap w.killed (sym i) ∙ living in cc))) (h.there c q e k v living (back q u) ne is parts place);
+  there = λ c q e k v living u ne is parts place. subst (λ (o : List Text). has_part e k o ≡ true) (sym (stream_learns a b w c q (λ i. let bad : true ≡ false = sym dead ∙ ap w.killed (sym i) ∙ living in cc))) (h.there c q e k v living (back q u) ne is parts place);
   ordered = λ c q u ne. elim (cases_eq c a) [
     | inl of ↦ elim (cases_eq q b) [
       | inl to ↦ subst (λ o. Ordered l c o [] (stream (learns a b w) c o)) (sym to) (subst (λ o. Ordered l o b [] (stream (learns a b w) o b)) (sym of) (emptied (subst (λ o. up s w o ≡ true) to (back q u)) (λ i. ne (of ∙ i ∙ sym to))))
       | inr far ↦ subst (Ordered l c q []) (sym (λ i. (put_other w.node b q (is_told a (w.node b)) far i).texts c ++ (if apart_to c q a b far i then [] else w.link c q))) (h.ordered c q (back q u) ne)
     ]
-    | inr far ↦ subst (Ordered l c q []) (sym (same c q far)) (h.ordered c q (back q u) ne)
+    | inr far ↦ subst (Ordered l c q []) (sym (stream_learns a b w c q far)) (h.ordered c q (back q u) ne)
   ];
 }
   where
-    both_same : (x y : ℕ) → ((x == x) && (y == y)) ≡ true
-    both_same x y = grind (arith, nat_tests)
-
-    apart_of : (x y u v : ℕ) → x ≢ u → ((x == u) && (y == v)) ≡ false
-    apart_of x y u v ne = grind (arith, nat_tests)
-
-    apart_to : (x y u v : ℕ) → y ≢ v → ((x == u) && (y == v)) ≡ false
-    apart_to x y u v ne = grind (arith, nat_tests)
-
-    told_texts : (q c : ℕ) → ((learns a b w).node q).texts c ≡ (w.node q).texts c
-    told_texts q c = elim (cases_eq q b) [
-      | inl to ↦ subst (λ o. ((learns a b w).node o).texts c ≡ (w.node o).texts c) (sym to) (ap (λ (n : Node). n.texts c) (put_same w.node b (is_told a (w.node b))))
-      | inr far ↦ ap (λ (n : Node). n.texts c) (put_other w.node b q (is_told a (w.node b)) far)
-    ]
-
-    same : (c q : ℕ) → c ≢ a → stream (learns a b w) c q ≡ stream w c q
-    same c q far = λ i. told_texts q c i ++ (if apart_of c q a b far i then [] else w.link c q)
-
     emptied : up s w b ≡ true → a ≢ b → Ordered l a b [] (stream (learns a b w) a b)
-    emptied u ne = subst (Ordered l a b []) (sym ((λ i. told_texts b a i ++ (if both_same a b i then [] else w.link a b)) ∙ append_none ((w.node b).texts a))) (ordered_front l a b [] ((w.node b).texts a) (w.link a b) (h.ordered a b u ne))
+    emptied u ne = subst (Ordered l a b []) (sym ((λ i. told_texts a b w b a i ++ (if both_same a b i then [] else w.link a b)) ∙ append_none ((w.node b).texts a))) (ordered_front l a b [] ((w.node b).texts a) (w.link a b) (h.ordered a b u ne))
 
 -- ---- what is sent
 

@@ -38,6 +38,8 @@ use Rattle.fx_calls.proofs.Standing.{AtStage, still_stands}
 use Rattle.fx_losses.proofs.Texts.{append_none, put_same, put_other, text_in, of_epoch}
 use Rattle.fx_losses.proofs.Truths.{truthful_grows, truthful_same, truthful_receives, truthful_learns}
 use Rattle.fx_calls.proofs.Legally.{Legally}
+use Rattle.fx_calls.proofs.Hearings.{Polls}
+use Rattle.fx_calls.proofs.Saying.{Said, said_receives, said_learns}
 
 -- ---- a delivery, and a notice
 
@@ -148,3 +150,19 @@ tells_legally job ps a b w dead is =
 pub tells_polls : (job : Job) (ps : List ℕ) (a b : ℕ) (w : World) (dead : w.killed a ≡ true) (is : Legally job ps w) → (tells_legally job ps a b w dead is).polls ≡ is.polls
 unfolding tells_legally quietly
 tells_polls job ps a b w dead is = refl
+
+-- what was said stands as before
+pub hears_said : (job : Job) (ps : List ℕ) (a b : ℕ) (t : Text) (rest : List Text) (w : World) (on : up (job_setup job) w b ≡ true) (front : w.link a b ≡ t ∷ rest) (is : Legally job ps w)
+    → Said (job_setup job) w (ledger_of job (noted w.items)) is.polls → Said (job_setup job) (receives_front a b (t ∷ rest) w) (ledger_of job (noted (receives_front a b (t ∷ rest) w).items)) (hears_legally job ps a b t rest w on front is).polls
+hears_said job ps a b t rest w on front is said =
+    subst (λ (x : List Item). Said (job_setup job) (receives_front a b (t ∷ rest) w) (ledger_of job x) (hears_legally job ps a b t rest w on front is).polls) (sym (same_journal w.items (item.Deliver (proc a) (proc b) (message_of t)) refl))
+    (subst (λ (x : Polls). Said (job_setup job) (receives_front a b (t ∷ rest) w) (ledger_of job (noted w.items)) x) (sym (hears_polls job ps a b t rest w on front is))
+    (said_receives (job_setup job) (ledger_of job (noted w.items)) is.polls a b t rest w (is.shows.sane b (up_parts (job_setup job) w b on).1).me front
+    (λ q u. sym (alike_up (job_setup job) b w (receives_front a b (t ∷ rest) w) q (alike_delivers (job_setup job) a b t rest w is.worlds is.fate on front is.shows)) ∙ u) said))
+
+pub tells_said : (job : Job) (ps : List ℕ) (a b : ℕ) (w : World) (dead : w.killed a ≡ true) (is : Legally job ps w)
+    → Said (job_setup job) w (ledger_of job (noted w.items)) is.polls → Said (job_setup job) (learns a b w) (ledger_of job (noted (learns a b w).items)) (tells_legally job ps a b w dead is).polls
+tells_said job ps a b w dead is said =
+    subst (λ (x : List Item). Said (job_setup job) (learns a b w) (ledger_of job x) (tells_legally job ps a b w dead is).polls) (sym (same_journal w.items (item.Told (proc a) (proc b)) refl))
+    (subst (λ (x : Polls). Said (job_setup job) (learns a b w) (ledger_of job (noted w.items)) x) (sym (tells_polls job ps a b w dead is))
+    (said_learns (job_setup job) (ledger_of job (noted w.items)) is.polls a b w dead (λ q u. sym (alike_up (job_setup job) b w (learns a b w) q (alike_learns (job_setup job) a b w is.worlds is.fate dead is.shows)) ∙ u) said))

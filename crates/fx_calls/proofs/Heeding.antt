@@ -21,6 +21,7 @@ use Rattle.fx_losses.proofs.Texts.{put_same, put_other}
 use Rattle.fx_calls.proofs.Hearings as hearings
 use Rattle.fx_calls.proofs.Hearings.{Polls, TrueText, PollsGrow}
 use Rattle.fx_calls.proofs.Plans.{Grows}
+use Rattle.fx_calls.proofs.Sayings.{SaysIn, says_none}
 use Rattle.fx_calls.proofs.Polled.{NodePolls, FirstReturn, IsFlag, Polled, Heeds, flag_grows, told_grows, not_before}
 
 -- ---- one call
@@ -84,8 +85,8 @@ module _ (w : World) (p : ℕ) (act : Act) (l m : Ledger) (polls : Polls) (is : 
   }
 
   pub heeds_one : ((e j : ℕ) (it : Item) (rest : List Item) → m.returns e j ≡ it ∷ rest → FirstReturn m (at_call d k y polls) e j it) → NodePolls (at_call d k y polls) p act.node
-      → ((c : ℕ) → Each (TrueText (at_call d k y polls) c) (act.node.texts c)) → ((b : ℕ) → Each (TrueText (at_call d k y polls) p) (sent_to b act.sends)) → Heeds p act l m polls
-  heeds_one told mine texts sends = record {
+      → ((c : ℕ) → Each (TrueText (at_call d k y polls) c) (act.node.texts c)) → ((b : ℕ) → Each (TrueText (at_call d k y polls) p) (sent_to b act.sends)) → SaysIn p act l d k (polls d k) y → Heeds p act l m polls
+  heeds_one told mine texts sends says = record {
     now = now;
     grows = one_grows;
     others = λ e j q ne. each_call (λ a b z. z.member q ≡ (polls a b).member q) d k y polls (one.others q ne) (λ a b. refl) e j;
@@ -104,6 +105,7 @@ module _ (w : World) (p : ℕ) (act : Act) (l m : Ledger) (polls : Polls) (is : 
     mine = mine;
     texts = texts;
     sends = sends;
+    says = λ e j. each_call (λ a b z. SaysIn p act l a b (polls a b) z) d k y polls says (λ a b. says_none p act l a b (polls a b) (polls a b) refl refl) e j;
   }
 
   -- where nothing is returned
@@ -157,6 +159,7 @@ module _ (w : World) (p : ℕ) (act : Act) (l m : Ledger) (polls : Polls) (is : 
     mine = mine;
     texts = λ c. hearings.texts_grow polls later grows c (act.node.texts c) (texts c);
     sends = λ b. hearings.texts_grow polls later grows p (sent_to b act.sends) (sends b);
+    says = λ e k. says_none p act l e k (polls e k) (later e k) (all_field (λ o y. (y.heard o).vote) (λ o y. refl) e k p) (all_field (λ o y. (y.heard o).estimate) (λ o y. refl) e k p);
   }
     where
       grows : PollsGrow polls later

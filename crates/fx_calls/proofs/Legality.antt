@@ -34,6 +34,7 @@ use Rattle.fx_calls.proofs.Legally.{Legally, gone_where_not_up}
 use Rattle.fx_calls.proofs.Legally.{acts_legally}
 use Rattle.fx_calls.proofs.Hearing.{hears_legally, tells_legally}
 use Rattle.fx_calls.proofs.Losing.{loses_legally}
+use Rattle.fx_calls.proofs.Saying.{Said, said_first}
 use Rattle.fx_losses.proofs.Tests.{apart_zero}
 
 -- a kill of who isn't up any more is passed over
@@ -98,6 +99,10 @@ begins job = record {
     eras (suc d) =
         subst (λ (o : Option Chapter). Like (first_ledger job) (suc d) (era (first_era (job_setup job)) none_yet (suc d)) o) (ap (λ (b : Bool). if b then Some (first_chapter job) else None) (sym (apart_zero d)))
         (subst (λ (o : Option Era). Like (first_ledger job) (suc d) o None) (sym (next_none d (era (first_era (job_setup job)) none_yet d))) tt)
+
+pub begins_said : (job : Job) → Said (job_setup job) (first_world (job_setup job)) (ledger_of job (noted (first_world (job_setup job)).items)) (begins job).polls
+unfolding begins
+begins_said job = said_first job (job_setup job)
 
 -- ---- the law
 

@@ -21,6 +21,7 @@ use Rattle.fx_calls.specs.Bodies.{AsksNoGroups}
 use Rattle.fx_calls.proofs.Delivered.{Delivered, delivered_step}
 use Rattle.fx_calls.proofs.Hearings.{Polls, PollsGrow}
 use Rattle.fx_calls.proofs.Polled.{Polled, polled_step}
+use Rattle.fx_calls.proofs.Saying.{Said, said_step}
 use Rattle.fx_calls.proofs.Parts.{Spoken}
 use Rattle.fx_calls.proofs.Plans.{HavePlans}
 use Rattle.fx_calls.proofs.Speaking.{spoken_step}
@@ -142,6 +143,12 @@ module _ (job : Job) (parts : KeepsByParts job) (planned : HavePlans job) (asks 
   pub acts_polls : PollsGrow is.polls acts_legally.polls
   unfolding acts_legally
   acts_polls = o.heeds.grows
+
+  -- what was said behind the step stands for each other place
+  pub acts_said : Said (job_setup job) w (ledger_of job (noted w.items)) is.polls → Said (job_setup job) (does (job_setup job) p act w) (ledger_of job (noted (does (job_setup job) p act w).items)) acts_legally.polls
+  unfolding acts_legally
+  acts_said said = subst (λ (x : Ledger). Said s (does s p act w) x o.heeds.now) (sym ledger_now)
+      (said_step job s p act w l m on (up_parts s w p on).1 o.adds.grows o.adds.far is.stepped.entries o.gives is.delivered is.polls o.heeds said)
 
   -- who is in a ballot of a call behind the step has voted there
   pub acts_votes : act.node.epoch ≡ (w.node p).epoch → (phase : Phase) → act.node.stage ≡ Calling (Balloting phase) → is_some (vote_of (acts_legally.polls (w.node p).epoch act.node.calls) p) ≡ true

@@ -22,8 +22,10 @@ pub mod Gathers
 pub mod Agrees
 pub mod Deeds
 pub mod Missing
+pub mod Sayings
 pub mod Speaking
 pub mod Polling
+pub mod Saying
 pub mod Legally
 pub mod Causes
 pub mod Causing

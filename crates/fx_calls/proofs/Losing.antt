@@ -42,6 +42,7 @@ use Rattle.fx_calls.proofs.Standing.{AtStage, gone_where_over}
 use Rattle.fx_losses.proofs.Texts.{put_same, put_other}
 use Rattle.fx_losses.proofs.Truths.{truthful_same, truthful_loses}
 use Rattle.fx_calls.proofs.Legally.{Legally}
+use Rattle.fx_calls.proofs.Saying.{Said, said_same}
 
 -- ---- a loss
 
@@ -109,21 +110,21 @@ module _ (job : Job) (ps : List ℕ) (p : ℕ) (w : World) (on : up (job_setup j
         subst (InStep job m q) (sym (loses_others s p w is.worlds is.fate is.shows q n.0)) (step_grows job l m grows q (λ a b. refl) (w.node q) (is.stepped.nodes q n.1));
   }
 
+  stream_loses : (a b : ℕ) → b ≢ p → stream (loses (job_setup job) p w) a b ≡ stream w a b
+  stream_loses a b ne = λ i. (loses_others s p w is.worlds is.fate is.shows b ne i).texts a ++ (if far_link i then [] else w.link a b)
+    where
+      far_link : (b == p) ≡ false
+      far_link = other_number b p ne
+
   delivered_now : Delivered s v m
   delivered_now = record {
     there = λ a b e j x living u ne at is_parts place.
         let n = slain_not p a w.killed living in
         let y = up_survivor s p w is.worlds is.fate is.shows b u in
-        subst (λ (o : List Text). has_part e j o ≡ true) (sym (same a b y.0)) (is.delivered.there a b e j x n.1 y.1 ne at is_parts place);
-    ordered = λ a b u ne. let y = up_survivor s p w is.worlds is.fate is.shows b u in subst (Ordered m a b []) (sym (same a b y.0))
+        subst (λ (o : List Text). has_part e j o ≡ true) (sym (stream_loses a b y.0)) (is.delivered.there a b e j x n.1 y.1 ne at is_parts place);
+    ordered = λ a b u ne. let y = up_survivor s p w is.worlds is.fate is.shows b u in subst (Ordered m a b []) (sym (stream_loses a b y.0))
         (ordered_grows job l m grows is.stepped.entries a b [] (stream w a b) (same_all l m a (λ e j. refl) (stream w a b)) (is.delivered.ordered a b y.1 ne));
   }
-    where
-      far_link : (a b : ℕ) → b ≢ p → (b == p) ≡ false
-      far_link a b ne = other_number b p ne
-
-      same : (a b : ℕ) → b ≢ p → stream (loses s p w) a b ≡ stream w a b
-      same a b ne = λ i. (loses_others s p w is.worlds is.fate is.shows b ne i).texts a ++ (if far_link a b ne i then [] else w.link a b)
 
   pub loses_legally : Legally job ps (loses (job_setup job) p w)
   loses_legally = record {
@@ -144,3 +145,10 @@ module _ (job : Job) (ps : List ℕ) (p : ℕ) (w : World) (on : up (job_setup j
   pub loses_votes : (e j q : ℕ) → vote_of (loses_legally.polls e j) q ≡ vote_of (is.polls e j) q
   unfolding loses_legally
   loses_votes e j q = ap (λ (x : Heard). x.vote) (kills_heard p q q (is.polls e j))
+
+  -- what was said was said before the loss
+  pub loses_said : Said (job_setup job) w (ledger_of job (noted w.items)) is.polls → Said (job_setup job) (loses (job_setup job) p w) (ledger_of job (noted (loses (job_setup job) p w).items)) loses_legally.polls
+  unfolding loses_legally
+  loses_said said = subst (λ (x : Ledger). Said s v x (killed_in p is.polls)) (sym ledger_now)
+      (said_same s w v m is.polls (killed_in p is.polls) (λ q e. (slain_not p q w.killed e).1) (λ q u. (up_survivor s p w is.worlds is.fate is.shows q u).1)
+      (λ a b alive u ne. stream_loses a b (up_survivor s p w is.worlds is.fate is.shows b u).0) (λ e j q. kills_heard p q q (is.polls e j)) (record { votes = said.votes; estimates = said.estimates }))

@@ -17,6 +17,7 @@ use Rattle.fx_legal.specs.Ledger.{first_ledger, Ledger}
 use Rattle.fx_legal.specs.Legal.{ledger_of}
 use Rattle.fx_losses.proofs.Texts.{put_same, put_other}
 use Rattle.fx_calls.proofs.Legally.{Legally}
+use Rattle.fx_calls.proofs.Saying.{Said}
 use Rattle.fx_calls.proofs.Plans.{Grows, HavePlans}
 use Rattle.fx_losses.proofs.Losses.{loses_others, slain_not}
 use Rattle.fx_losses.proofs.Schedule.{kills_of}
@@ -28,9 +29,9 @@ use Rattle.fx_calls.specs.Bodies.{IsOfSums, IsUnshifted, AsksSums, AsksNoShifts}
 use Rattle.fx_calls.proofs.Bodies.{sums_unshifted}
 use Rattle.fx_losses.proofs.Legality.{KillsProcesses}
 use Rattle.fx_losses.proofs.Moments.{IsKeptAlong, always_along}
-use Rattle.fx_calls.proofs.Hearing.{hears_legally, hears_polls, tells_legally, tells_polls, same_journal}
-use Rattle.fx_calls.proofs.Losing.{loses_legally, loses_votes, told, ledger_now, grows}
-use Rattle.fx_calls.proofs.Legality.{passes_legally, passes_polls, begins}
+use Rattle.fx_calls.proofs.Hearing.{hears_legally, hears_polls, hears_said, tells_legally, tells_polls, tells_said, same_journal}
+use Rattle.fx_calls.proofs.Losing.{loses_legally, loses_votes, loses_said, told, ledger_now, grows}
+use Rattle.fx_calls.proofs.Legality.{passes_legally, passes_polls, begins, begins_said}
 use Rattle.fx_calls.proofs.Causes.{Causes, Caused, CausedOf, HaveVoted, BodyAsks, AsksAt, loss_grows, caused_grows}
 use Rattle.fx_calls.proofs.Causing.{caused_by}
 use Rattle.fx_losses.specs.Losses.{HasLoss, RepairLosses, EachEpochHasItsLoss}
@@ -58,23 +59,24 @@ alike_at node b m is q = elim (cases_eq q b) [
   | inr ne ↦ subst (λ (x : Node). Alike x (node q)) (sym (put_other node b q m ne)) (record { stage = refl; epoch = refl; walk = refl })
 ]
 
-quiet : (May : Wanted → Type 0) (job : Job) (ps : List ℕ) (w v : World) → noted v.items ≡ noted w.items → ((q : ℕ) → v.killed q ≡ w.killed q) → ((q : ℕ) → Alike (v.node q) (w.node q)) → (is : Legally job ps v) (c : CausedOf May job ps w) → is.polls ≡ c.legally.polls → CausedOf May job ps v
-quiet May job ps w v silent killed same is c polls = record {
+quiet : (May : Wanted → Type 0) (job : Job) (ps : List ℕ) (w v : World) → noted v.items ≡ noted w.items → ((q : ℕ) → v.killed q ≡ w.killed q) → ((q : ℕ) → Alike (v.node q) (w.node q)) → (is : Legally job ps v) (c : CausedOf May job ps w) → is.polls ≡ c.legally.polls → Said (job_setup job) v (ledger_of job (noted v.items)) is.polls → CausedOf May job ps v
+quiet May job ps w v silent killed same is c polls said = record {
   legally = is;
   voted = subst (HaveVoted (ledger_of job (noted v.items))) (sym polls) (subst (λ (items : List Item). HaveVoted (ledger_of job items) c.legally.polls) (sym silent) c.voted);
   causes = subst (λ (items : List Item). Causes May job v (ledger_of job items)) (sym silent) (causes_same May job (ledger_of job (noted w.items)) w v killed same c.causes);
   losses = subst (RepairLosses job (first_ledger job)) (sym silent) c.losses;
+  said = said;
 }
 
 hears_caused : (May : Wanted → Type 0) (job : Job) (ps : List ℕ) (a b : ℕ) (t : Text) (rest : List Text) (w : World) → up (job_setup job) w b ≡ true → w.link a b ≡ t ∷ rest → CausedOf May job ps w → CausedOf May job ps (receives_front a b (t ∷ rest) w)
 hears_caused May job ps a b t rest w on front c =
     quiet May job ps w (receives_front a b (t ∷ rest) w) (same_journal w.items (item.Deliver (proc a) (proc b) (message_of t)) refl) (λ q. refl)
-    (alike_at w.node b (receives a t (w.node b)) (record { stage = refl; epoch = refl; walk = refl })) (hears_legally job ps a b t rest w on front c.legally) c (hears_polls job ps a b t rest w on front c.legally)
+    (alike_at w.node b (receives a t (w.node b)) (record { stage = refl; epoch = refl; walk = refl })) (hears_legally job ps a b t rest w on front c.legally) c (hears_polls job ps a b t rest w on front c.legally) (hears_said job ps a b t rest w on front c.legally c.said)
 
 tells_caused : (May : Wanted → Type 0) (job : Job) (ps : List ℕ) (a b : ℕ) (w : World) → w.killed a ≡ true → CausedOf May job ps w → CausedOf May job ps (learns a b w)
 tells_caused May job ps a b w dead c =
     quiet May job ps w (learns a b w) (same_journal w.items (item.Told (proc a) (proc b)) refl) (λ q. refl)
-    (alike_at w.node b (is_told a (w.node b)) (record { stage = refl; epoch = refl; walk = refl })) (tells_legally job ps a b w dead c.legally) c (tells_polls job ps a b w dead c.legally)
+    (alike_at w.node b (is_told a (w.node b)) (record { stage = refl; epoch = refl; walk = refl })) (tells_legally job ps a b w dead c.legally) c (tells_polls job ps a b w dead c.legally) (tells_said job ps a b w dead c.legally c.said)
 
 loses_caused : (May : Wanted → Type 0) (job : Job) (ps : List ℕ) (p : ℕ) (w : World) → up (job_setup job) w p ≡ true → CausedOf May job (p ∷ ps) w → CausedOf May job ps (loses (job_setup job) p w)
 loses_caused May job ps p w on c = record {
@@ -89,6 +91,7 @@ loses_caused May job ps p w on c = record {
     sums = λ q alive. let n = slain_not p q w.killed alive in
         subst (λ (x : Node). AsksAt May x.stage x.walk) (sym (loses_others (job_setup job) p w c.legally.worlds c.legally.fate c.legally.shows q n.0)) (c.causes.sums q n.1);
   });
+  said = loses_said job ps p w on c.legally c.said;
   losses = subst (RepairLosses job (first_ledger job)) (sym (told job ps p w on c.legally)) (losses_more job (first_ledger job) (noted w.items) (item.Kill (proc p) ∷ []) c.losses (tt, tt));
 }
   where
@@ -112,6 +115,7 @@ begins_so May job = record {
     sums = λ q alive. tt;
   };
   losses = tt;
+  said = begins_said job;
 }
   where
     no_failure : Stage → Bool
@@ -127,7 +131,7 @@ kept_so May less job parts planned asks = record {
   hears = λ ps p q t rest w on e is. hears_caused May job ps p q t rest w on e is;
   tells = λ ps p q w dead is. tells_caused May job ps p q w dead is;
   loses = λ ps p w on is. loses_caused May job ps p w on is;
-  passes = λ ps p w few off is. record { legally = passes_legally job ps p w few off is.legally; causes = is.causes; voted = subst (HaveVoted (ledger_of job (noted w.items))) (sym (passes_polls job ps p w few off is.legally)) is.voted; losses = is.losses };
+  passes = λ ps p w few off is. record { legally = passes_legally job ps p w few off is.legally; causes = is.causes; voted = subst (HaveVoted (ledger_of job (noted w.items))) (sym (passes_polls job ps p w few off is.legally)) is.voted; losses = is.losses; said = subst (Said (job_setup job) w (ledger_of job (noted w.items))) (sym (passes_polls job ps p w few off is.legally)) is.said };
 }
 
 pub kept_caused : (job : Job) → KeepsByParts job → HavePlans job → AsksSums job → IsKeptAlong (job_setup job) (Caused job)

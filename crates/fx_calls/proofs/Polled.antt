@@ -28,6 +28,7 @@ use Rattle.fx_losses.proofs.Shows.{is_decided}
 use Rattle.fx_losses.proofs.Tests.{first_of, second_of}
 use Rattle.fx_calls.proofs.Hearings.{Polls, TrueText, PollsGrow, polls_same, texts_grow}
 use Rattle.fx_calls.proofs.Plans.{Grows, same_comm, still_begun}
+use Rattle.fx_calls.proofs.Sayings.{SaysIn, says_none}
 
 -- ---- one node
 
@@ -113,6 +114,7 @@ pub record Heeds (p : ℕ) (act : Act) (l m : Ledger) (polls : Polls) : Type 0 w
   pub mine : NodePolls now p act.node
   pub texts : (c : ℕ) → Each (TrueText now c) (act.node.texts c)
   pub sends : (b : ℕ) → Each (TrueText now p) (sent_to b act.sends)
+  pub says : (e k : ℕ) → SaysIn p act l e k (polls e k) (now e k)
 
 -- a node of which nothing changed in the ballots
 pub node_same : (polls now : Polls) (q : ℕ) (n : Node) → ((e k : ℕ) → (now e k).member q ≡ (polls e k).member q) → NodePolls polls q n → NodePolls now q n
@@ -207,6 +209,7 @@ heeds_none w p act l m polls is g joined told mine texts sends = record {
   mine = mine;
   texts = texts;
   sends = sends;
+  says = λ e k. says_none p act l e k (polls e k) (polls e k) refl refl;
 }
 
 -- where nothing is returned
