@@ -39,11 +39,12 @@ use Rattle.fx_machine.specs.Numbers.{call_no, epoch_no, of_each_below, proc}
 use Rattle.fx_machine.specs.Steps.{next}
 use Rattle.fx_machine.specs.Texts.{Text}
 use Rattle.fx_machine.specs.Waits.{ByLeaving, ByLoss, returns_error}
-use Rattle.fx_node.specs.Asking.{OnlyCarried, is_carried, share_of, to_seats}
+use Rattle.fx_node.specs.Asking.{AsksSuch, OnlyCarried, gathers_parts, is_agreement, is_carried, share_of, to_seats}
 use Rattle.fx_node.specs.declared.node.Moved.{Moved}
 use Rattle.fx_node.specs.declared.node.Moved.TheVariants as moved
+use Rattle.fx_node.specs.declared.stage.Stage.{Stage}
 use Rattle.fx_node.specs.declared.stage.Stage.TheVariants as stage
-use Rattle.fx_node.specs.Standing.{ComesTo, IsNodeOf, Standing, StandsAs, WalksAlong}
+use Rattle.fx_node.specs.Standing.{ComesTo, InCall, IsInCall, IsNodeOf, Standing, StandsAs, WalksAlong}
 use Rattle.fx_node.specs.Stepping.{Steps, Takes, posted}
 use Rattle.fx_node.proofs.Acts.{by_stage}
 use Rattle.fx_node.proofs.Begun.{my_place_is}
@@ -131,7 +132,25 @@ posted_places me meant (s ∷ seats) k =
 gathers_at : (job : Job) (c : Standing) (n : Node) → c.stage ≡ stage.Gathering → IsNodeOf job c n → StandsAs job stage.Gathering c n
 gathers_at job c n is h = subst (λ s. StandsAs job s c n) is h.stands
 
-walks_at : (job : Job) (c : Standing) (n : Node) → c.stage ≡ stage.Walking → IsNodeOf job c n → StandsAs job stage.Walking c n
+-- in a call it is in one that passes a test
+pub in_call_at : (job : Job) (c : Standing) (n : Node) → IsInCall c.stage → IsNodeOf job c n → (test : Wanted → Bool) × InCall job test c n
+in_call_at job c n is h = by c.stage is h.stands
+  where
+    by : (s : Stage) → IsInCall s → StandsAs job s c n → (test : Wanted → Bool) × InCall job test c n
+    by stage.Gathering is there = (gathers_parts, there.1)
+    by (stage.Balloting phase) is there = (is_agreement, there.1)
+    by other is there = absurd is
+
+pub gathering_is : (s : Stage) → s ≡ stage.Gathering → IsInCall s
+gathering_is s e = subst IsInCall (sym e) tt
+
+pub asks_outward : (test : Wanted → Bool) (walk : Walk) → AsksSuch test walk → at_of walk ≡ at.Outward
+asks_outward test (Ends state) asks = absurd asks
+asks_outward test (Passes rest) asks = absurd asks
+asks_outward test (Prints printed rest) asks = absurd asks
+asks_outward test (Asks place wanted state rest) asks = refl
+
+pub walks_at : (job : Job) (c : Standing) (n : Node) → c.stage ≡ stage.Walking → IsNodeOf job c n → StandsAs job stage.Walking c n
 walks_at job c n is h = subst (λ s. StandsAs job s c n) is h.stands
 
 still_so : (view : View) (walk : Walk) (flow : Flowing) → DoesRest view walk flow → at_of walk ≡ at.Outward → state_at (stop_of walk []) ≡ state_of flow
@@ -150,9 +169,10 @@ seat_found (s ∷ seats) (suc k) p e = seat_found seats k p e
 pub proc_there : (n : Node) (comm : List Seat) (k : ℕ) (p : Proc) → n.comm ≡ comm → option_map (λ (s : Seat). s.1) (slice_get comm k) ≡ Some p → proc_at n k ≡ p.0
 proc_there n comm k p same e = ap (λ (l : List Seat). seat_at (procs_of l) k) same ∙ seat_found comm k p e
 
-node_fails : (job : Job) (c : Standing) (n : Node) → c.stage ≡ stage.Gathering → IsNodeOf job c n → IsNodeOf job (record c { stage = stage.Failed }) (record n { stage = node.Failed })
+node_fails : (job : Job) (c : Standing) (n : Node) → IsInCall c.stage → IsNodeOf job c n → IsNodeOf job (record c { stage = stage.Failed }) (record n { stage = node.Failed })
 node_fails job c n is h =
-    let here = gathers_at job c n is h in
+    let call = in_call_at job c n is h in
+    let here : InCall job call.0 c n = call.1 in
     record {
       me = h.me;
       ranks = h.ranks;
@@ -165,27 +185,27 @@ node_fails job c n is h =
       bare = h.bare;
       is_flow = h.is_flow;
       knows = h.knows;
-      stands = (refl, still_so c.view n.walk c.flow here.1.does here.4, here.2, here.3);
+      stands = (refl, still_so c.view n.walk c.flow here.along.does (asks_outward call.0 n.walk here.asks), here.told, here.begun);
     }
 
-pub fails_so : (job : Job) (c : Standing) (n : Node) (k : ℕ) (p : Proc) (sent : List (Proc × Message)) (told told' : List Item) → IsNodeOf job c n → c.stage ≡ stage.Gathering
-    → option_map (λ (s : Seat). s.1) (slice_get c.comm k) ≡ Some p → told' ≡ told ++ item.Failed (proc c.me) (epoch_no c.epoch) (call_no c.calls) p ∷ []
-    → Takes job (returns_error n (ByLoss (proc_at n k))) moved.Acted (record c { stage = stage.Failed }) sent sent told told'
-fails_so job c n k p sent told told' h is there wrote = record {
+pub fails_so : (job : Job) (c : Standing) (n : Node) (p : Proc) (sent : List (Proc × Message)) (told told' : List Item) → IsNodeOf job c n → IsInCall c.stage
+    → told' ≡ told ++ item.Failed (proc c.me) (epoch_no c.epoch) (call_no c.calls) p ∷ []
+    → Takes job (returns_error n (ByLoss p.0)) moved.Acted (record c { stage = stage.Failed }) sent sent told told'
+fails_so job c n p sent told told' h is wrote = record {
   says = refl;
   node = node_fails job c n is h;
   sends = sym (append-nil sent);
-  items = rw (h.me, h.epoch, h.calls, proc_there n c.comm k p h.comm there) wrote;
+  items = rw (h.me, h.epoch, h.calls) wrote;
 }
 
-pub revokes_so : (job : Job) (c : Standing) (n : Node) (k : ℕ) (p : Proc) (sent : List (Proc × Message)) (told told' : List Item) → IsNodeOf job c n → c.stage ≡ stage.Gathering
-    → option_map (λ (s : Seat). s.1) (slice_get c.comm k) ≡ Some p → told' ≡ told ++ item.Revoked (proc c.me) (epoch_no c.epoch) (call_no c.calls) p ∷ []
-    → Takes job (returns_error n (ByLeaving (proc_at n k))) moved.Acted (record c { stage = stage.Failed }) sent sent told told'
-revokes_so job c n k p sent told told' h is there wrote = record {
+pub revokes_so : (job : Job) (c : Standing) (n : Node) (p : Proc) (sent : List (Proc × Message)) (told told' : List Item) → IsNodeOf job c n → IsInCall c.stage
+    → told' ≡ told ++ item.Revoked (proc c.me) (epoch_no c.epoch) (call_no c.calls) p ∷ []
+    → Takes job (returns_error n (ByLeaving p.0)) moved.Acted (record c { stage = stage.Failed }) sent sent told told'
+revokes_so job c n p sent told told' h is wrote = record {
   says = refl;
   node = node_fails job c n is h;
   sends = sym (append-nil sent);
-  items = rw (h.me, h.epoch, h.calls, proc_there n c.comm k p h.comm there) wrote;
+  items = rw (h.me, h.epoch, h.calls) wrote;
 }
 
 -- ---- the return
@@ -234,12 +254,12 @@ number_fits : (w : Wanted) (value : ℤ) → Fits w (Number value)
 number_fits (wanted.Shift by own) value = tt
 number_fits other value = tt
 
-pub goes_walking : (job : Job) (c : Standing) (n : Node) (place : TextPlace) (w : Wanted) (state : State) (rest : Reply → Walk) (given : Given) (flow : Flowing) → IsNodeOf job c n → c.stage ≡ stage.Gathering
+pub goes_walking : (job : Job) (c : Standing) (n : Node) (place : TextPlace) (w : Wanted) (state : State) (rest : Reply → Walk) (given : Given) (flow : Flowing) → IsNodeOf job c n → IsInCall c.stage
     → n.walk ≡ Asks place w state rest → Fits w given → (IsFlowOf job c.flow → IsFlowOf job flow)
     → ((view : View) (walk : Walk) (latest : List ℤ) → DoesRest view walk c.flow → WasAnswered view walk (record { given = given; latest = latest }) flow)
     → IsNodeOf job (record c { flow = flow; stage = stage.Walking }) (node.goes_on rest given n)
 goes_walking job c n place w state rest given flow h is at fits of_job answers =
-    let here = gathers_at job c n is h in
+    let here = (in_call_at job c n is h).1 in
     record {
       me = h.me;
       ranks = h.ranks;
@@ -252,11 +272,11 @@ goes_walking job c n place w state rest given flow h is at fits of_job answers =
       bare = h.bare;
       is_flow = of_job h.is_flow;
       knows = h.knows;
-      stands = (refl, walks_on job c n place w state rest given flow h.bare at fits here.1 (answers c.view n.walk (latest n) here.1.does), here.2, here.3);
+      stands = (refl, walks_on job c n place w state rest given flow h.bare at fits here.along (answers c.view n.walk (latest n) here.along.does), here.told, here.begun);
     }
 
 pub passes_so : (job : Job) (c : Standing) (n : Node) (place : TextPlace) (w : Wanted) (state : State) (rest : Reply → Walk) (flow : Flowing) (sent : List (Proc × Message)) (told told' : List Item)
-    → IsNodeOf job c n → c.stage ≡ stage.Gathering → n.walk ≡ Asks place w state rest → (IsFlowOf job c.flow → IsFlowOf job flow)
+    → IsNodeOf job c n → IsInCall c.stage → n.walk ≡ Asks place w state rest → (IsFlowOf job c.flow → IsFlowOf job flow)
     → ((view : View) (walk : Walk) (latest : List ℤ) → DoesRest view walk c.flow → WasAnswered view walk (record { given = Nothing; latest = latest }) flow)
     → told' ≡ told ++ item.Passed (proc c.me) (epoch_no c.epoch) (call_no c.calls) ∷ []
     → Takes job (passes n rest) moved.Acted (record c { flow = flow; stage = stage.Walking }) sent sent told told'
@@ -268,7 +288,7 @@ passes_so job c n place w state rest flow sent told told' h is at of_job answers
 }
 
 pub gives_number_so : (job : Job) (c : Standing) (n : Node) (place : TextPlace) (w : Wanted) (state : State) (rest : Reply → Walk) (value : ℤ) (flow : Flowing) (sent : List (Proc × Message)) (told told' : List Item)
-    → IsNodeOf job c n → c.stage ≡ stage.Gathering → n.walk ≡ Asks place w state rest → (IsFlowOf job c.flow → IsFlowOf job flow)
+    → IsNodeOf job c n → IsInCall c.stage → n.walk ≡ Asks place w state rest → (IsFlowOf job c.flow → IsFlowOf job flow)
     → ((view : View) (walk : Walk) (latest : List ℤ) → DoesRest view walk c.flow → WasAnswered view walk (record { given = Number value; latest = latest }) flow)
     → told' ≡ told ++ item.Value (proc c.me) (epoch_no c.epoch) (call_no c.calls) value ∷ []
     → Takes job (returns_number n rest value) moved.Acted (record c { flow = flow; stage = stage.Walking }) sent sent told told'
@@ -281,18 +301,18 @@ gives_number_so job c n place w state rest value flow sent told told' h is at of
 
 -- elements that fit are given
 pub gives_elements_so : (job : Job) (c : Standing) (n : Node) (place : TextPlace) (w : Wanted) (state : State) (rest : Reply → Walk) (elements : List ℤ) (flow : Flowing) (sent : List (Proc × Message)) (told told' : List Item)
-    → IsNodeOf job c n → c.stage ≡ stage.Gathering → n.walk ≡ Asks place w state rest → Fits w (Elements elements)
+    → IsNodeOf job c n → IsInCall c.stage → n.walk ≡ Asks place w state rest → Fits w (Elements elements)
     → ((view : View) (walk : Walk) → IsFlowOf job c.flow → DoesRest view walk c.flow → IsGivenFitting job.names walk (Elements elements) → IsFlowOf job flow)
     → ((view : View) (walk : Walk) (latest : List ℤ) → DoesRest view walk c.flow → WasAnswered view walk (record { given = Elements elements; latest = latest }) flow)
     → told' ≡ told ++ item.Shifted (proc c.me) (epoch_no c.epoch) (call_no c.calls) elements ∷ []
     → Takes job (returns_elements n rest elements) moved.Acted (record c { flow = flow; stage = stage.Walking }) sent sent told told'
 gives_elements_so job c n place w state rest elements flow sent told told' h is at fits of_job answers wrote =
-    let here = gathers_at job c n is h in
+    let here = (in_call_at job c n is h).1 in
     let fitting : IsGivenFitting job.names n.walk (Elements elements) =
-    subst (λ (x : Walk). IsGivenFitting job.names x (Elements elements)) (sym at) (subst (StaysShaped job.names) at here.1.shaped, fits) in
+    subst (λ (x : Walk). IsGivenFitting job.names x (Elements elements)) (sym at) (subst (StaysShaped job.names) at here.along.shaped, fits) in
     record {
       says = refl;
-      node = goes_walking job c n place w state rest (Elements elements) flow h is at fits (λ of. of_job c.view n.walk of here.1.does fitting) answers;
+      node = goes_walking job c n place w state rest (Elements elements) flow h is at fits (λ of. of_job c.view n.walk of here.along.does fitting) answers;
       sends = sym (append-nil sent);
       items = rw (h.me, h.epoch, h.calls) wrote;
     }
@@ -314,8 +334,10 @@ next_call : (epoch calls : ℕ) → kept.goes_on epoch calls epoch (suc calls) �
 next_call epoch calls =
     or_right (nat_lt epoch epoch) _ (and_from (epoch == epoch) (nat_le calls (suc calls)) (eq-eqb epoch epoch refl) (le-leb calls (suc calls) (omega arith)))
 
-walks_in : (job : Job) (c : Standing) (n : Node) (calls : ℕ) (box : Kept) → WalksAlong job 20000 c n → WalksAlong job 20001 (record c { calls = calls; stage = stage.Gathering; inbox = box }) (entered node.Gathering n)
-walks_in job c n calls box h = record {
+-- in the call it walks along as before, and the call that it is in is counted already
+pub walks_in : (job : Job) (c : Standing) (n : Node) (s : Stage) (at : node.Stage) (texts : ℕ → List Text) (calls : ℕ) (box : Kept) → WalksAlong job 20000 c n
+    → WalksAlong job 20001 (record c { calls = calls; stage = s; inbox = box }) (record n { calls = suc n.calls; stage = at; texts = texts })
+walks_in job c n s at texts calls box h = record {
   sees = h.sees;
   does = h.does;
   carried = h.carried;
@@ -327,8 +349,8 @@ walks_in job c n calls box h = record {
 }
 
 goes_gathering : (job : Job) (c : Standing) (n : Node) (place : TextPlace) (w : Wanted) (state : State) (rest : Reply → Walk) (next : ℕ) (box : Kept) → IsNodeOf job c n → c.stage ≡ stage.Walking
-    → n.walk ≡ Asks place w state rest → next ≡ suc c.calls → ComesTo c next box → IsNodeOf job (record c { calls = next; stage = stage.Gathering; inbox = box }) (entered node.Gathering n)
-goes_gathering job c n place w state rest next box h is at is_next comes =
+    → n.walk ≡ Asks place w state rest → gathers_parts w ≡ true → next ≡ suc c.calls → ComesTo c next box → IsNodeOf job (record c { calls = next; stage = stage.Gathering; inbox = box }) (entered node.Gathering n)
+goes_gathering job c n place w state rest next box h is at parts is_next comes =
     let here = walks_at job c n is h in
     let number : suc n.calls ≡ next = ap suc h.calls ∙ sym is_next in
     let on : kept.goes_on n.epoch n.calls c.epoch next ≡ true =
@@ -347,20 +369,20 @@ goes_gathering job c n place w state rest next box h is at is_next comes =
       knows =
           subst (λ (d : ℕ). Knows n.me d (suc n.calls) n.lost n.texts box) (sym h.epoch)
           (subst (λ (k : ℕ). Knows n.me c.epoch k n.lost n.texts box) (sym number) (comes n.me n.epoch n.calls n.lost n.texts on h.knows));
-      stands = (refl, walks_in job c n next box here.1, here.2, here.3, ap at_of at);
+      stands = (refl, record { along = walks_in job c n stage.Gathering (node.Calling node.Gathering) n.texts next box here.1; told = here.2; begun = here.3; asks = subst (AsksSuch gathers_parts) (sym at) parts });
     }
 
 pub enters_so : (job : Job) (c : Standing) (n : Node) (place : TextPlace) (w : Wanted) (state : State) (rest : Reply → Walk) (next : ℕ) (box : Kept) (meant : ℕ → List ℤ) (entering : Proc → Epoch → CallNo → Item)
-    (sent sent' : List (Proc × Message)) (told told' : List Item) → IsNodeOf job c n → c.stage ≡ stage.Walking → n.walk ≡ Asks place w state rest → next ≡ suc c.calls → ComesTo c next box
+    (sent sent' : List (Proc × Message)) (told told' : List Item) → IsNodeOf job c n → c.stage ≡ stage.Walking → n.walk ≡ Asks place w state rest → gathers_parts w ≡ true → next ≡ suc c.calls → ComesTo c next box
     → sent' ≡ sent ++ to_seats c.me (λ x. message.Part (epoch_no c.epoch) (call_no next) (meant x)) 0 c.comm
     → told' ≡ told ++ entering (proc c.me) (epoch_no c.epoch) (call_no next) ∷ []
     → Takes job (enters n node.Gathering (entering (proc n.me) (epoch_no n.epoch) (call_no (suc n.calls))) (λ x. part n (meant x) ∷ [])) moved.Acted
     (record c { calls = next; stage = stage.Gathering; inbox = box }) sent sent' told told'
-enters_so job c n place w state rest next box meant entering sent sent' told told' h is at is_next comes went wrote =
+enters_so job c n place w state rest next box meant entering sent sent' told told' h is at parts is_next comes went wrote =
     let number : suc n.calls ≡ next = ap suc h.calls ∙ sym is_next in
     record {
       says = refl;
-      node = goes_gathering job c n place w state rest next box h is at is_next comes;
+      node = goes_gathering job c n place w state rest next box h is at parts is_next comes;
       sends =
           went
           ∙ ap (λ (l : List (Proc × Message)). sent ++ l)
@@ -369,14 +391,14 @@ enters_so job c n place w state rest next box meant entering sent sent' told tol
     }
 
 pub enters_there : (job : Job) (c after : Standing) (n : Node) (place : TextPlace) (w : Wanted) (state : State) (rest : Reply → Walk) (next : ℕ) (meant : ℕ → List ℤ) (entering : Proc → Epoch → CallNo → Item)
-    (sent sent' : List (Proc × Message)) (told told' : List Item) → IsNodeOf job c n → c.stage ≡ stage.Walking → n.walk ≡ Asks place w state rest → next ≡ suc c.calls
+    (sent sent' : List (Proc × Message)) (told told' : List Item) → IsNodeOf job c n → c.stage ≡ stage.Walking → n.walk ≡ Asks place w state rest → gathers_parts w ≡ true → next ≡ suc c.calls
     → after ≡ record c { calls = next; stage = stage.Gathering; inbox = after.inbox } → ComesTo c next after.inbox
     → sent' ≡ sent ++ to_seats c.me (λ x. message.Part (epoch_no c.epoch) (call_no next) (meant x)) 0 c.comm
     → told' ≡ told ++ entering (proc c.me) (epoch_no c.epoch) (call_no next) ∷ []
     → Takes job (enters n node.Gathering (entering (proc n.me) (epoch_no n.epoch) (call_no (suc n.calls))) (λ x. part n (meant x) ∷ [])) moved.Acted after sent sent' told told'
-enters_there job c after n place w state rest next meant entering sent sent' told told' h is at is_next same comes went wrote =
+enters_there job c after n place w state rest next meant entering sent sent' told told' h is at parts is_next same comes went wrote =
     subst (λ (s : Standing). Takes job (enters n node.Gathering (entering (proc n.me) (epoch_no n.epoch) (call_no (suc n.calls))) (λ x. part n (meant x) ∷ [])) moved.Acted s sent sent' told told') (sym same)
-    (enters_so job c n place w state rest next after.inbox meant entering sent sent' told told' h is at is_next comes went wrote)
+    (enters_so job c n place w state rest next after.inbox meant entering sent sent' told told' h is at parts is_next comes went wrote)
 
 -- the place to which the elements of a shift go is counted from one's own
 pub enters_shift_there : (job : Job) (c after : Standing) (n : Node) (place : TextPlace) (by : ℕ) (own : List ℤ) (state : State) (rest : Reply → Walk) (next mine target : ℕ)
@@ -390,7 +412,7 @@ enters_shift_there job c after n place by own state rest next mine target sent s
     let goes : target_of (node.size n) by (node.my_place n) ≡ target =
     (λ i. target_of (length (h.comm i)) by (my_place_is n c.comm c.me mine h.comm h.me there i)) ∙ sym to in
     subst (λ (d : ℕ). Takes job (enters n node.Gathering (item.Shift (proc n.me) (epoch_no n.epoch) (call_no (suc n.calls)) by own) (λ x. part n (share_of (Some d) own x) ∷ [])) moved.Acted after sent sent' told told') (sym goes)
-    (enters_there job c after n place (wanted.Shift by own) state rest next (share_of (Some target) own) (λ p e k. item.Shift p e k by own) sent sent' told told' h is at is_next same comes went wrote)
+    (enters_there job c after n place (wanted.Shift by own) state rest next (share_of (Some target) own) (λ p e k. item.Shift p e k by own) sent sent' told told' h is at refl is_next same comes went wrote)
 
 pub walks_with_place : (job : Job) (c : Standing) (n : Node) → IsNodeOf job c n → c.stage ≡ stage.Walking → place_in c.comm c.me ≡ None → ⊥
 walks_with_place job c n h is none =
@@ -422,22 +444,23 @@ is_carried_out job c n place w state rest h is at =
     let carried : OnlyCarried (Asks place w state rest) = subst OnlyCarried at (walks_at job c n is h).1.carried in
     carried.0
 
--- what is carried out is a barrier, a reduction or a shift
-pub is_one_of : (w : Wanted) → is_carried w ≡ true → (w ≡ wanted.Barrier → ⊥) → ((op : Op) (own : ℤ) → w ≡ wanted.Reduce op own → ⊥) → ((by : ℕ) (own : List ℤ) → w ≡ wanted.Shift by own → ⊥) → ⊥
-is_one_of wanted.Barrier is first second third = first refl
-is_one_of (wanted.Reduce op own) is first second third = second op own refl
-is_one_of (wanted.Shift by own) is first second third = third by own refl
-is_one_of (wanted.Agree flag) is first second third = absurd cc
-is_one_of (wanted.Group g start depth) is first second third = absurd cc
-is_one_of (wanted.Attach g m) is first second third = absurd cc
-is_one_of (wanted.Store g m piece) is first second third = absurd cc
-is_one_of (wanted.Commit g) is first second third = absurd cc
-is_one_of (wanted.Close g) is first second third = absurd cc
-is_one_of (wanted.Restore g m stamp) is first second third = absurd cc
-is_one_of (wanted.Delete g stamp) is first second third = absurd cc
+-- what is carried out is a barrier, a reduction, a shift or an agreement
+pub is_one_of : (w : Wanted) → is_carried w ≡ true → (w ≡ wanted.Barrier → ⊥) → ((op : Op) (own : ℤ) → w ≡ wanted.Reduce op own → ⊥) → ((flag : ℤ) → w ≡ wanted.Agree flag → ⊥)
+    → ((by : ℕ) (own : List ℤ) → w ≡ wanted.Shift by own → ⊥) → ⊥
+is_one_of wanted.Barrier is first second third fourth = first refl
+is_one_of (wanted.Reduce op own) is first second third fourth = second op own refl
+is_one_of (wanted.Agree flag) is first second third fourth = third flag refl
+is_one_of (wanted.Shift by own) is first second third fourth = fourth by own refl
+is_one_of (wanted.Group g start depth) is first second third fourth = absurd cc
+is_one_of (wanted.Attach g m) is first second third fourth = absurd cc
+is_one_of (wanted.Store g m piece) is first second third fourth = absurd cc
+is_one_of (wanted.Commit g) is first second third fourth = absurd cc
+is_one_of (wanted.Close g) is first second third fourth = absurd cc
+is_one_of (wanted.Restore g m stamp) is first second third fourth = absurd cc
+is_one_of (wanted.Delete g stamp) is first second third fourth = absurd cc
 
 -- it gathers parts
-front_so : (job : Job) (n : Node) (w : Wanted) (rest : Reply → Walk) → is_carried w ≡ true → in_gathering n w rest ≡ in_call (job_setup job) n w rest node.Gathering
+front_so : (job : Job) (n : Node) (w : Wanted) (rest : Reply → Walk) → gathers_parts w ≡ true → in_gathering n w rest ≡ in_call (job_setup job) n w rest node.Gathering
 front_so job n wanted.Barrier rest is = refl
 front_so job n (wanted.Reduce op own) rest is = refl
 front_so job n (wanted.Agree flag) rest is = absurd cc
@@ -453,33 +476,33 @@ front_so job n (wanted.Delete g stamp) rest is = absurd cc
 -- ---- waiting for parts
 
 pub asks_there : (job : Job) (c : Standing) (n : Node) → IsNodeOf job c n → c.stage ≡ stage.Gathering → at_of n.walk ≡ at.Outward
-asks_there job c n h is = (gathers_at job c n is h).4
+asks_there job c n h is = asks_outward gathers_parts n.walk (gathers_at job c n is h).1.asks
 
 pub at_its_statement : (job : Job) (c : Standing) (n : Node) (found : At) → IsNodeOf job c n → c.stage ≡ stage.Gathering → ((view : View) (walk : Walk) → DoesRest view walk c.flow → found ≡ at_of walk)
     → found ≡ at.Outward
 at_its_statement job c n found h is told =
     let here = gathers_at job c n is h in
-    told c.view n.walk here.1.does ∙ here.4
+    told c.view n.walk here.1.along.does ∙ asks_outward gathers_parts n.walk here.1.asks
 
 pub has_its_place : (job : Job) (c : Standing) (n : Node) → IsNodeOf job c n → c.stage ≡ stage.Gathering → place_in c.comm c.me ≡ None → ⊥
 has_its_place job c n h is none =
-    let here : has_place n.comm n.me ≡ true = (gathers_at job c n is h).1.placed in
+    let here : has_place n.comm n.me ≡ true = (gathers_at job c n is h).1.along.placed in
     let no : has_place n.comm n.me ≡ false = rw (h.comm, h.me) (has_place_in c.comm c.me ∙ ap is_some none) in
     absurd (true≢false (sym here ∙ no))
 
 -- the step of a node that gathers, by the answer of the poll
 pub gathers_so : (job : Job) (c after : Standing) (n : Node) (w : Wanted) (known : List Known) (answer : CollPoll) (said : Moved) (sent sent' : List (Proc × Message)) (told told' : List Item)
-    → IsNodeOf job c n → c.stage ≡ stage.Gathering → ((walk : Walk) → DoesRest c.view walk c.flow → AsksFor walk w) → (is_carried w ≡ true → StandsFor known n w) → answer ≡ answer_of known
+    → IsNodeOf job c n → c.stage ≡ stage.Gathering → ((walk : Walk) → DoesRest c.view walk c.flow → AsksFor walk w) → (gathers_parts w ≡ true → StandsFor known n w) → answer ≡ answer_of known
     → ((place : TextPlace) (state : State) (rest : Reply → Walk) → n.walk ≡ Asks place w state rest → StandsFor known n w → Steps job n (acts_by n w rest answer) said after sent sent' told told')
     → Steps job n (next (job_setup job) n) said after sent sent' told told'
 gathers_so job c after n w known answer said sent sent' told told' h is asked stands same goes =
     let here = gathers_at job c n is h in
     by_stage job after n (node.Calling node.Gathering) said sent sent' told told' here.0
-    (of_asked n.walk w (λ (walk : Walk). Steps job n (in_asked_call (job_setup job) n node.Gathering walk) said after sent sent' told told') (asked n.walk here.1.does)
+    (of_asked n.walk w (λ (walk : Walk). Steps job n (in_asked_call (job_setup job) n node.Gathering walk) said after sent sent' told told') (asked n.walk here.1.along.does)
     (λ place state rest at.
-    let only : OnlyCarried (Asks place w state rest) = subst OnlyCarried at here.1.carried in
-    let there : StandsFor known n w = stands only.0 in
-    let acts : in_call (job_setup job) n w rest node.Gathering ≡ acts_by n w rest answer = sym (front_so job n w rest only.0) ∙ answers known n w rest there ∙ ap (acts_by n w rest) (sym same) in
+    let only : gathers_parts w ≡ true = subst (AsksSuch gathers_parts) at here.1.asks in
+    let there : StandsFor known n w = stands only in
+    let acts : in_call (job_setup job) n w rest node.Gathering ≡ acts_by n w rest answer = sym (front_so job n w rest only) ∙ answers known n w rest there ∙ ap (acts_by n w rest) (sym same) in
     subst (λ (a : Option Act). Steps job n a said after sent sent' told told') (sym acts) (goes place state rest at there)))
 
 -- it waits on

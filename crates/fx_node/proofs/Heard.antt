@@ -6,15 +6,17 @@ use Rattle.std.specs.List.{list_all}
 use Rattle.fx_ballot.specs.World.{put}
 use Rattle.fx_link.specs.declared.slot.Slot.{Slot}
 use Rattle.fx_machine.specs.Nodes.{Node, is_told, receives}
-use Rattle.fx_machine.specs.Reading.{first_read, is_past_at, next_ballot, only, vote_in}
+use Rattle.fx_machine.specs.Reading.{first_read, next_ballot, only, vote_in}
 use Rattle.fx_machine.specs.Texts.{Text}
 use Rattle.fx_inbox.specs.declared.phase.Phase.{Phase}
 use Rattle.fx_inbox.specs.declared.phase.Phase.TheVariants as phase
 use Rattle.fx_node.specs.declared.stage.Stage.{Stage}
 use Rattle.fx_node.specs.declared.stage.Stage.TheVariants as stage
 use Rattle.fx_inbox.specs.Keeping.{IsInboxOf, Kept}
-use Rattle.fx_node.specs.Standing.{HasVoted, HoldsVote, IsNodeOf, OwnAreUpTo, Standing, StandsAs, WalksAlong}
+use Rattle.fx_node.specs.Standing.{HasVoted, HoldsVote, IsNodeOf, OwnAreUpTo, Standing, InCall, StandsAs, WalksAlong, is_up_to}
+use Rattle.fx_node.specs.Asking.{gathers_parts, is_agreement}
 use Rattle.fx_script.specs.declared.job.Job.{Job}
+use Rattle.fx_walk.specs.declared.wanted.Wanted.{Wanted}
 
 -- ---- with other losses and other texts of others
 
@@ -23,7 +25,7 @@ abbrev with : (ℕ → Bool) → (ℕ → List Text) → Node → Node
 with lost texts n = record n { lost = lost; texts = texts }
 
 own_are : (epoch : ℕ) (lost : ℕ → Bool) (texts : ℕ → List Text) (n : Node) → texts n.me ≡ n.texts n.me → OwnAreUpTo epoch n → OwnAreUpTo epoch (with lost texts n)
-own_are epoch lost texts n own h = ap (λ mine. list_all (is_past_at epoch 0) mine) own ∙ h
+own_are epoch lost texts n own h = ap (λ mine. list_all (is_up_to epoch) mine) own ∙ h
 
 holds : (lost : ℕ → Bool) (texts : ℕ → List Text) (n : Node) (vote : Slot) (phase : Phase) → HoldsVote n vote phase → HoldsVote (with lost texts n) vote phase
 holds lost texts n vote phase.Voting h = h
@@ -42,13 +44,18 @@ has_voted lost texts n phase own h = record {
 walks : (job : Job) (most : ℕ) (lost : ℕ → Bool) (texts : ℕ → List Text) (box : Kept) (c : Standing) (n : Node) → WalksAlong job most c n → WalksAlong job most (record c { inbox = box }) (with lost texts n)
 walks job most lost texts box c n h = record { sees = h.sees; does = h.does; carried = h.carried; shaped = h.shaped; placed = h.placed; left = h.left; within = h.within; few = h.few }
 
+calls : (job : Job) (test : Wanted → Bool) (lost : ℕ → Bool) (texts : ℕ → List Text) (box : Kept) (c : Standing) (n : Node) → texts n.me ≡ n.texts n.me
+    → InCall job test c n → InCall job test (record c { inbox = box }) (with lost texts n)
+calls job test lost texts box c n own h = record { along = walks job 20001 lost texts box c n h.along; told = own_are n.epoch lost texts n own h.told; begun = h.begun; asks = h.asks }
+
 stands : (job : Job) (lost : ℕ → Bool) (texts : ℕ → List Text) (box : Kept) (at : Stage) (c : Standing) (n : Node) → texts n.me ≡ n.texts n.me
     → StandsAs job at c n → StandsAs job at (record c { inbox = box }) (with lost texts n)
 stands job lost texts box stage.Begins c n own h = (h.0, h.1, own_are n.epoch lost texts n own h.2, h.3)
 stands job lost texts box (stage.Joining phase) c n own h = (h.0, h.1, has_voted lost texts n phase own h.2)
 stands job lost texts box stage.Arrived c n own h = (h.0, h.1, own_are n.epoch lost texts n own h.2, h.3, h.4)
 stands job lost texts box stage.Walking c n own h = (h.0, walks job 20000 lost texts box c n h.1, own_are n.epoch lost texts n own h.2, h.3)
-stands job lost texts box stage.Gathering c n own h = (h.0, walks job 20001 lost texts box c n h.1, own_are n.epoch lost texts n own h.2, h.3, h.4)
+stands job lost texts box stage.Gathering c n own h = (h.0, calls job gathers_parts lost texts box c n own h.1)
+stands job lost texts box (stage.Balloting phase) c n own h = (h.0, calls job is_agreement lost texts box c n own h.1)
 stands job lost texts box stage.Failed c n own h = (h.0, h.1, own_are n.epoch lost texts n own h.2, h.3)
 stands job lost texts box stage.Over c n own h = h
 

@@ -16,14 +16,14 @@ use Rattle.fx_machine.specs.Messages.{message_of, wire_text}
 use Rattle.fx_machine.specs.Nodes as node
 use Rattle.fx_machine.specs.Nodes.{Node, Act, keeping, to_others}
 use Rattle.fx_machine.specs.Numbers.{proc, epoch_no}
-use Rattle.fx_machine.specs.Reading.{OfEpoch, first_read, only, is_join, is_past_at, is_past_call, vote_in}
-use Rattle.fx_machine.specs.Texts.{Text, Join, Jest, Part, Vote, Est, Share, Tell, Help, Give}
+use Rattle.fx_machine.specs.Reading.{OfEpoch, first_read, only, is_join, vote_in}
+use Rattle.fx_machine.specs.Texts.{Text, Join, Jest}
 use Rattle.fx_ballot.specs.Turn.{Voting}
 use Rattle.fx_node.specs.declared.node.Moved.TheVariants as moved
 use Rattle.fx_inbox.specs.declared.phase.Phase.TheVariants as phase
 use Rattle.fx_node.specs.declared.stage.Stage.TheVariants as stage
 use Rattle.fx_inbox.specs.Keeping.{Kept, IsInboxOf}
-use Rattle.fx_node.specs.Standing.{Standing, IsNodeOf, HasVoted, MayVote, OwnAreUpTo}
+use Rattle.fx_node.specs.Standing.{Standing, IsNodeOf, HasVoted, MayVote, OwnAreUpTo, is_up_to}
 use Rattle.fx_node.specs.Stepping.{Steps, Takes, posted, broadcast}
 use Rattle.fx_script.specs.declared.job.Job.{Job}
 
@@ -38,60 +38,44 @@ posted_all me all t = each (filter (λ q. not (q == me)) all)
 
 -- ---- own texts
 
-call_on : (epoch e k : ℕ) → is_past_call epoch 0 e k ≡ true → is_past_call (suc epoch) 0 e k ≡ true
-call_on epoch e k is = grind (arith, nat_tests)
-
 le_on : (epoch e : ℕ) → nat_le e epoch ≡ true → nat_le e (suc epoch) ≡ true
 le_on epoch e is = grind (arith, nat_tests)
 
--- what is past stays so
-past_on : (epoch : ℕ) (t : Text) → is_past_at epoch 0 t ≡ true → is_past_at (suc epoch) 0 t ≡ true
-past_on epoch (Join e kind) is = le_on epoch e is
-past_on epoch (Jest e r slots) is = le_on epoch e is
-past_on epoch (Part e k values) is = call_on epoch e k is
-past_on epoch (Vote e k x) is = call_on epoch e k is
-past_on epoch (Est e k r slots) is = call_on epoch e k is
-past_on epoch (Share e k packed) is = call_on epoch e k is
-past_on epoch (Tell e k known) is = call_on epoch e k is
-past_on epoch (Help e k packed) is = call_on epoch e k is
-past_on epoch (Give e k packed) is = call_on epoch e k is
+-- what is of this epoch or of one before is so at the next
+up_on : (epoch : ℕ) (t : Text) → is_up_to epoch t ≡ true → is_up_to (suc epoch) t ≡ true
+up_on epoch (Join e kind) is = le_on epoch e is
+up_on epoch (Jest e r slots) is = le_on epoch e is
+up_on epoch other is = refl
 
-pub all_past_on : (epoch : ℕ) (ts : List Text) → list_all (is_past_at epoch 0) ts ≡ true → list_all (is_past_at (suc epoch) 0) ts ≡ true
-all_past_on epoch [] is = refl
-all_past_on epoch (t ∷ ts) is =
-    let both = and_parts (is_past_at epoch 0 t) (list_all (is_past_at epoch 0) ts) is in
-    and_from (is_past_at (suc epoch) 0 t) (list_all (is_past_at (suc epoch) 0) ts) (past_on epoch t both.0) (all_past_on epoch ts both.1)
+pub all_up_on : (epoch : ℕ) (ts : List Text) → list_all (is_up_to epoch) ts ≡ true → list_all (is_up_to (suc epoch)) ts ≡ true
+all_up_on epoch [] is = refl
+all_up_on epoch (t ∷ ts) is =
+    let both = and_parts (is_up_to epoch t) (list_all (is_up_to epoch) ts) is in
+    and_from (is_up_to (suc epoch) t) (list_all (is_up_to (suc epoch)) ts) (up_on epoch t both.0) (all_up_on epoch ts both.1)
 
-pub all_past_more : (epoch : ℕ) (ts : List Text) (t : Text) → list_all (is_past_at epoch 0) ts ≡ true → is_past_at epoch 0 t ≡ true → list_all (is_past_at epoch 0) (ts ++ t ∷ []) ≡ true
-all_past_more epoch [] t is one = and_from (is_past_at epoch 0 t) true one refl
-all_past_more epoch (s ∷ ts) t is one =
-    let both = and_parts (is_past_at epoch 0 s) (list_all (is_past_at epoch 0) ts) is in
-    and_from (is_past_at epoch 0 s) (list_all (is_past_at epoch 0) (ts ++ t ∷ [])) both.0 (all_past_more epoch ts t both.1 one)
+pub one_more_up : (epoch : ℕ) (ts : List Text) (t : Text) → list_all (is_up_to epoch) ts ≡ true → is_up_to epoch t ≡ true → list_all (is_up_to epoch) (ts ++ t ∷ []) ≡ true
+one_more_up epoch [] t is one = and_from (is_up_to epoch t) true one refl
+one_more_up epoch (s ∷ ts) t is one =
+    let both = and_parts (is_up_to epoch s) (list_all (is_up_to epoch) ts) is in
+    and_from (is_up_to epoch s) (list_all (is_up_to epoch) (ts ++ t ∷ [])) both.0 (one_more_up epoch ts t both.1 one)
 
 other_epoch : (epoch e : ℕ) → nat_le e epoch ≡ true → (e == suc epoch) ≡ false
 other_epoch epoch e is = grind (arith, nat_tests)
 
--- what is past is no vote of the ballot that comes
-no_vote : (epoch : ℕ) (test : Slot → Bool) (t : Text) → is_past_at epoch 0 t ≡ true → only test (vote_in (OfEpoch (suc epoch)) t) ≡ None
+-- what is of this epoch or of one before is no vote of the ballot that comes
+no_vote : (epoch : ℕ) (test : Slot → Bool) (t : Text) → is_up_to epoch t ≡ true → only test (vote_in (OfEpoch (suc epoch)) t) ≡ None
 no_vote epoch test (Join e kind) is = let other : (e == suc epoch) ≡ false = other_epoch epoch e is in rw other refl
-no_vote epoch test (Jest e r slots) is = refl
-no_vote epoch test (Part e k values) is = refl
-no_vote epoch test (Vote e k x) is = refl
-no_vote epoch test (Est e k r slots) is = refl
-no_vote epoch test (Share e k packed) is = refl
-no_vote epoch test (Tell e k known) is = refl
-no_vote epoch test (Help e k packed) is = refl
-no_vote epoch test (Give e k packed) is = refl
+no_vote epoch test other is = refl
 
 itself : (a : ℕ) → (a == a) ≡ true
 itself a = eq-eqb a a refl
 
 -- the vote that is said is the first one
-pub first_vote : (epoch : ℕ) (test : Slot → Bool) (kind : Slot) (ts : List Text) → test kind ≡ true → list_all (is_past_at epoch 0) ts ≡ true
+pub first_vote : (epoch : ℕ) (test : Slot → Bool) (kind : Slot) (ts : List Text) → test kind ≡ true → list_all (is_up_to epoch) ts ≡ true
     → first_read (λ t. only test (vote_in (OfEpoch (suc epoch)) t)) (ts ++ Join (suc epoch) kind ∷ []) ≡ Some kind
 first_vote epoch test kind [] counts is = rw (itself (suc epoch), counts) refl
 first_vote epoch test kind (t ∷ ts) counts is =
-    let both = and_parts (is_past_at epoch 0 t) (list_all (is_past_at epoch 0) ts) is in
+    let both = and_parts (is_up_to epoch t) (list_all (is_up_to epoch) ts) is in
     let none : only test (vote_in (OfEpoch (suc epoch)) t) ≡ None = no_vote epoch test t both.0 in
     rw none (first_vote epoch test kind ts counts both.1)
 
@@ -111,7 +95,7 @@ votes_so n kind valid counted unheard = record {
   told =
       let here : (joined kind n).node.texts n.me ≡ n.texts n.me ++ Join (suc n.epoch) kind ∷ [] = rw (itself n.me) refl in
       let within : nat_le (suc n.epoch) (suc n.epoch) ≡ true = le-leb (suc n.epoch) (suc n.epoch) (omega arith) in
-      ap (list_all (is_past_at (suc n.epoch) 0)) here ∙ all_past_more (suc n.epoch) (n.texts n.me) (Join (suc n.epoch) kind) (all_past_on n.epoch (n.texts n.me) unheard) within;
+      ap (list_all (is_up_to (suc n.epoch))) here ∙ one_more_up (suc n.epoch) (n.texts n.me) (Join (suc n.epoch) kind) (all_up_on n.epoch (n.texts n.me) unheard) within;
 }
 
 goes_joining : (job : Job) (kind : Slot) (c : Standing) (n : Node) (inbox : Kept) → IsNodeOf job c n → MayVote kind c n → may_join n ≡ true

@@ -17,7 +17,7 @@ use Rattle.fx_machine.specs.Nodes.{Node, my_place, proc_at, size}
 use Rattle.fx_machine.specs.Reading as reading
 use Rattle.fx_machine.specs.Reading.{first_read, given_that, only}
 use Rattle.fx_machine.specs.Texts.{Text}
-use Rattle.fx_node.specs.Asking.{HasKind, HaveKind, IsFresh, IsTold, is_carried, part_in, taken}
+use Rattle.fx_node.specs.Asking.{HasKind, HaveKind, IsFresh, IsTold, gathers_parts, part_in, taken}
 use Rattle.fx_base.specs.declared.names.Op.{Op}
 use Rattle.fx_walk.specs.declared.wanted.Wanted.{Wanted}
 use Rattle.fx_walk.specs.declared.wanted.Wanted.TheVariants as wanted
@@ -160,7 +160,7 @@ own_or_heard (Some p) true mine values heard e same = ap Some same
 own_or_heard None false mine values heard e same = e
 own_or_heard (Some p) false mine values heard e same = e
 
-mine_so : (w : Wanted) → is_carried w ≡ true → values_in (part_in w) ≡ own_part w
+mine_so : (w : Wanted) → gathers_parts w ≡ true → values_in (part_in w) ≡ own_part w
 mine_so wanted.Barrier is = refl
 mine_so (wanted.Reduce op own) is = refl
 mine_so (wanted.Agree flag) is = absurd cc
@@ -173,7 +173,7 @@ mine_so (wanted.Close g) is = absurd cc
 mine_so (wanted.Restore g m stamp) is = absurd cc
 mine_so (wanted.Delete g stamp) is = absurd cc
 
-pub told_so : (n : Node) (w : Wanted) (x who : ℕ) (o : Option Part) (lost left : Bool) (old new : List Known) → is_carried w ≡ true → Learnt x o lost left old new → proc_at n x ≡ who
+pub told_so : (n : Node) (w : Wanted) (x who : ℕ) (o : Option Part) (lost left : Bool) (old new : List Known) → gathers_parts w ≡ true → Learnt x o lost left old new → proc_at n x ≡ who
     → IsFresh n w (known_at old x) x → option_map values_in o ≡ part_from n (due_from w (size n) (my_place n) x) who → lost ≡ n.lost who → left ≡ reading.has_left n who → IsTold n w (known_at new x) x
 told_so n w x who o lost left old new is l at fresh heard told away = record {
   part =

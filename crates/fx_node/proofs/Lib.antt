@@ -1,7 +1,7 @@
 mod Acts
+pub mod Agreeing
 mod Begun
 pub mod Calling
-pub mod Carried
 pub mod Deciding
 pub mod Electing
 mod First

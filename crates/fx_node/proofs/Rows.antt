@@ -1,11 +1,19 @@
--- A shift by one among three places.
-use Rattle.std.specs.Prelude.{◌≡◌, refl, ℕ, pos, List, [], ◌∷◌, Some}
+-- A shift by one, and an agreement, among three places.
+use Rattle.std.specs.Prelude.{◌≡◌, refl, ℕ, pos, negsuc, List, [], ◌∷◌, Option, Some}
 use Rattle.fx_comm.specs.Seats.{Seat}
 use Rattle.fx_link.specs.declared.message.Message.{Message}
 use Rattle.fx_link.specs.declared.message.Message.TheVariants as message
-use Rattle.fx_machine.specs.Gathering.{due_from, source_of, target_of}
+use Rattle.fx_link.specs.declared.slot.Slot.{Slot}
+use Rattle.fx_link.specs.declared.slot.Slot.TheVariants as slot
+use Rattle.fx_machine.specs.Calls.{decides_call}
+use Rattle.fx_machine.specs.Gathering.{due_from, returns_number, source_of, target_of}
+use Rattle.fx_machine.specs.Nodes.{Act, Node, procs_of}
 use Rattle.fx_machine.specs.Numbers.{call_no, epoch_no, proc}
+use Rattle.fx_machine.specs.Setup.{Setup}
+use Rattle.fx_machine.specs.Waits.{ByLeaving, ByLoss, returns_error}
 use Rattle.fx_node.specs.Asking.{share_of, to_seats}
+use Rattle.fx_node.specs.Stepping.{broadcast}
+use Rattle.fx_walk.specs.Walk.{Reply, Walk}
 use Rattle.fx_walk.specs.declared.wanted.Wanted.TheVariants as wanted
 
 -- processes 4, 5 and 6 have the places
@@ -32,3 +40,26 @@ from_the_second = refl
 
 its_source : source_of 3 1 0 ≡ 2
 its_source = refl
+
+-- ---- an agreement
+
+-- the second place says its flag to the first and to the third
+second_votes : broadcast 5 (procs_of three_seats) (message.Vote (epoch_no 1) (call_no 2) (slot.Flag (pos 6)))
+    ≡ (proc 4, message.Vote (epoch_no 1) (call_no 2) (slot.Flag (pos 6))) ∷ (proc 6, message.Vote (epoch_no 1) (call_no 2) (slot.Flag (pos 6))) ∷ []
+second_votes = refl
+
+-- what it comes to for a process of these places, by the slots that were decided
+abbrev decided : Setup → Node → (Reply → Walk) → List Slot → Option Act
+decided s n rest slots = decides_call s (record n { comm = three_seats }) (wanted.Agree (pos 6)) rest slots
+
+-- of 6, 3 and -1 it returns the bits that all have
+returns_bits : (s : Setup) (n : Node) (rest : Reply → Walk) → decided s n rest (slot.Flag (pos 6) ∷ slot.Flag (pos 3) ∷ slot.Flag (negsuc 0) ∷ []) ≡ Some (returns_number (record n { comm = three_seats }) rest (pos 2))
+returns_bits s n rest = refl
+
+-- where the second is lost it fails by process 5, though the third left
+fails_by_the_second : (s : Setup) (n : Node) (rest : Reply → Walk) → decided s n rest (slot.Flag (pos 6) ∷ slot.Lost ∷ slot.Left ∷ []) ≡ Some (returns_error (record n { comm = three_seats }) (ByLoss 5))
+fails_by_the_second s n rest = refl
+
+-- where the first left it is revoked by process 4, though the second is lost
+revoked_by_the_first : (s : Setup) (n : Node) (rest : Reply → Walk) → decided s n rest (slot.Left ∷ slot.Lost ∷ slot.Flag (pos 6) ∷ []) ≡ Some (returns_error (record n { comm = three_seats }) (ByLeaving 4))
+revoked_by_the_first s n rest = refl

@@ -18,7 +18,7 @@ use Rattle.fx_machine.specs.Ballots.{decides_epoch, turned}
 use Rattle.fx_machine.specs.Messages.{wire_text}
 use Rattle.fx_machine.specs.Nodes as node
 use Rattle.fx_machine.specs.Nodes.{Node, Act, keeping}
-use Rattle.fx_machine.specs.Reading.{OfEpoch, first_read, is_join, is_past_at, next_ballot, only, turn_in, vote_in}
+use Rattle.fx_machine.specs.Reading.{OfEpoch, first_read, is_join, next_ballot, only, turn_in, vote_in}
 use Rattle.fx_machine.specs.Steps.{next, next_at}
 use Rattle.fx_machine.specs.Texts.{Text, Jest}
 use Rattle.fx_node.specs.declared.node.Moved.{Moved}
@@ -28,10 +28,10 @@ use Rattle.fx_inbox.specs.declared.phase.Phase.TheVariants as phase
 use Rattle.fx_node.specs.declared.stage.Stage.{Stage}
 use Rattle.fx_node.specs.declared.stage.Stage.TheVariants as stage
 use Rattle.fx_inbox.specs.Keeping.{Kept, IsInboxOf}
-use Rattle.fx_node.specs.Standing.{Standing, HasVoted, HoldsVote, IsDeciding, IsNodeOf, IsStill, StandsAs}
+use Rattle.fx_node.specs.Standing.{Standing, HasVoted, HoldsVote, IsDeciding, IsNodeOf, IsStill, StandsAs, is_up_to}
 use Rattle.fx_node.specs.Stepping.{Steps, broadcast, estimate_message}
 use Rattle.fx_inbox.specs.Turns.{phase_of}
-use Rattle.fx_node.proofs.Joining.{all_past_more, posted_all}
+use Rattle.fx_node.proofs.Joining.{one_more_up, posted_all}
 use Rattle.fx_node.proofs.Turning.{Holds, decided_holds, turn_holds}
 use Rattle.fx_script.specs.declared.job.Job.{Job}
 
@@ -142,7 +142,7 @@ spoken_voted job c n p later slots v on =
       valid = voted.valid;
       holds = holds_kept n p later slots voted.vote (holds_on job c n p later v on);
       counted = voted.counted;
-      told = ap (list_all (is_past_at (suc n.epoch) 0)) here ∙ all_past_more (suc n.epoch) (n.texts n.me) (Jest (suc n.epoch) (seat_of n.present n.me) slots) voted.told within;
+      told = ap (list_all (is_up_to (suc n.epoch))) here ∙ one_more_up (suc n.epoch) (n.texts n.me) (Jest (suc n.epoch) (seat_of n.present n.me) slots) voted.told within;
     }
   where
     holds_kept : (n : Node) (p later : Phase) (slots : List Slot) (vote : Slot) → HoldsVote n vote later → HoldsVote (spoken n p slots) vote later

@@ -113,7 +113,7 @@ seat_from [] k p e = absurd cc
 seat_from (s ∷ seats) zero p e = (s, let same : Some s.1 ≡ Some p = e in cc, refl)
 seat_from (s ∷ seats) (suc k) p e = seat_from seats k p e
 
-seat_there : (seats : List Seat) (k : ℕ) (p : Proc) → option_map (λ (s : Seat). s.1) (slice_get seats k) ≡ Some p → (x : Seat) × (x.1 ≡ p) × (drop k seats ≡ x ∷ drop (k + 1) seats)
+pub seat_there : (seats : List Seat) (k : ℕ) (p : Proc) → option_map (λ (s : Seat). s.1) (slice_get seats k) ≡ Some p → (x : Seat) × (x.1 ≡ p) × (drop k seats ≡ x ∷ drop (k + 1) seats)
 seat_there seats k p e = let x = seat_from seats k p e in (x.0, x.1, rw add-one x.2)
 
 pub below_32 : (seats : List Seat) (k : ℕ) (p : Proc) → AllBelow32 seats → option_map (λ (s : Seat). s.1) (slice_get seats k) ≡ Some p → p.0 < 32

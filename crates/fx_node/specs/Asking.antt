@@ -1,5 +1,5 @@
 -- What a body may ask for, and the parts of a call.
-use Rattle.std.specs.Prelude.{◌≡◌, ◌<◌, ◌==◌, ◌+◌, length, ℕ, ℤ, Bool, true, false, if◌then◌else◌, List, [], ◌∷◌, ◌++◌, Option, Some, None, option_map}
+use Rattle.std.specs.Prelude.{◌≡◌, ◌<◌, ◌==◌, ◌+◌, ◌||◌, length, ℕ, ℤ, Bool, true, false, if◌then◌else◌, List, [], ◌∷◌, ◌++◌, Option, Some, None, option_map}
 use Rattle.fx_base.specs.declared.names.Proc.{Proc}
 use Rattle.fx_check.specs.Facts.{facts_of}
 use Rattle.fx_coll.specs.Keeping.{gives, known_at}
@@ -22,12 +22,26 @@ use Rattle.fx_walk.specs.declared.wanted.Wanted.TheVariants as wanted
 
 -- ---- what is carried out
 
--- barriers, reductions and shifts are; no other statement that asks something of others is
+-- in barriers, reductions and shifts each place gives its part to the others
+abbrev pub gathers_parts : Wanted → Bool
+gathers_parts wanted.Barrier = true
+gathers_parts (wanted.Reduce op own) = true
+gathers_parts (wanted.Shift by own) = true
+gathers_parts other = false
+
+-- an agreement has a ballot alone
+abbrev pub is_agreement : Wanted → Bool
+is_agreement (wanted.Agree flag) = true
+is_agreement other = false
+
+-- these are; no other statement that asks something of others is
 abbrev pub is_carried : Wanted → Bool
-is_carried wanted.Barrier = true
-is_carried (wanted.Reduce op own) = true
-is_carried (wanted.Shift by own) = true
-is_carried other = false
+is_carried wanted = gathers_parts wanted || is_agreement wanted
+
+-- the walk asks for something that passes the test
+abbrev pub AsksSuch : (Wanted → Bool) → Walk → Type 0
+AsksSuch test (Asks place wanted state rest) = test wanted ≡ true
+AsksSuch test other = ⊥
 
 -- a walk asks only for what is carried out, whatever is replied, and what is printed has a name
 abbrev pub OnlyCarried : Walk → Type 0

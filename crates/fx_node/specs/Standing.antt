@@ -1,5 +1,5 @@
 -- A process as it runs, and the node that it is defined to be.
-use Rattle.std.specs.Prelude.{◌≡◌, ◌+◌, ◌<◌, ◌≤◌, ℕ, suc, Bool, false, true, List, All, Some, length, slice_get}
+use Rattle.std.specs.Prelude.{◌≡◌, ◌+◌, ◌<◌, ◌≤◌, ℕ, ℤ, suc, Bool, false, true, List, All, Some, length, nat_le, slice_get}
 use Rattle.std.specs.List.{list_all}
 use Rattle.fx_ballot.specs.declared.poll.Poll.{Poll}
 use Rattle.fx_ballot.specs.Names.{Distinct, has, seat_of}
@@ -10,23 +10,24 @@ use Rattle.fx_flow.specs.Flowing.{Flowing, DoesRest, IsFlowOf, state_of}
 use Rattle.fx_inbox.specs.declared.phase.Phase.{Phase}
 use Rattle.fx_inbox.specs.declared.phase.Phase.TheVariants as phase
 use Rattle.fx_inbox.specs.Keeping.{Kept, IsInboxOf, Knows, goes_on, senders}
-use Rattle.fx_machine.specs.Texts.{Text}
+use Rattle.fx_machine.specs.Texts.{Text, Join, Jest}
+use Rattle.fx_machine.specs.Waits.{call_ballot}
 use Rattle.fx_inbox.specs.Turns.{IsTurn, Stays, phase_of}
 use Rattle.fx_link.specs.declared.slot.Slot.{Slot}
 use Rattle.fx_machine.specs.Ballots.{may_join}
 use Rattle.fx_machine.specs.Nodes as node
 use Rattle.fx_machine.specs.Nodes.{Node, my_place, size}
-use Rattle.fx_machine.specs.Reading.{is_join, is_past_at, next_ballot, turn_in, vote_of}
+use Rattle.fx_machine.specs.Reading.{is_join, next_ballot, turn_in, vote_of}
 use Rattle.fx_node.specs.declared.stage.Stage.{Stage}
 use Rattle.fx_node.specs.declared.stage.Stage.TheVariants as stage
 use Rattle.fx_script.specs.declared.job.Job.{Job}
 use Rattle.fx_value.specs.Shape.{StaysShaped}
-use Rattle.fx_walk.specs.Along.{at_of}
 use Rattle.fx_walk.specs.Callbacks.{view_at_init}
-use Rattle.fx_walk.specs.declared.action.At.TheVariants as at
 use Rattle.fx_walk.specs.declared.action.View.{View}
 use Rattle.fx_walk.specs.Lengths.{IsWithin}
-use Rattle.fx_node.specs.Asking.{OnlyCarried}
+use Rattle.fx_walk.specs.declared.wanted.Wanted.{Wanted}
+use Rattle.fx_walk.specs.declared.wanted.Wanted.TheVariants as wanted
+use Rattle.fx_node.specs.Asking.{AsksSuch, OnlyCarried, gathers_parts, is_agreement}
 
 -- all that a process keeps, and whether memory ran out
 pub record Standing : Type 0 where
@@ -62,9 +63,15 @@ pub record IsSound (c : Standing) : Type 0 where
 abbrev pub IsStill : Standing → Node → Type 0
 IsStill c n = node.state_of n ≡ state_of c.flow
 
--- its own votes and estimates are of this epoch's ballot and those before it
+-- if a text is a vote or an estimate in the ballot of an epoch, it is that of this epoch or of one before
+abbrev pub is_up_to : ℕ → Text → Bool
+is_up_to epoch (Join e kind) = nat_le e epoch
+is_up_to epoch (Jest e round slots) = nat_le e epoch
+is_up_to epoch other = true
+
+-- so are its own votes and estimates; those in ballots of calls may be of any call
 abbrev pub OwnAreUpTo : ℕ → Node → Type 0
-OwnAreUpTo epoch n = list_all (is_past_at epoch 0) (n.texts n.me) ≡ true
+OwnAreUpTo epoch n = list_all (is_up_to epoch) (n.texts n.me) ≡ true
 
 -- in the estimate that it holds stands its own vote
 abbrev pub HoldsVote : Node → Slot → Phase → Type 0
@@ -92,14 +99,21 @@ pub record WalksAlong (job : Job) (most : ℕ) (c : Standing) (n : Node) : Type 
   pub within : IsWithin n.walk left
   pub few : n.calls + left ≤ most
 
--- It stands where the node stands. No epoch has begun before its first join, and one has behind it. The call that it is in has a
--- number already, and still stands before it in the walk.
+-- It is in a call that passes the test, which has a number already and still stands before it in the walk.
+pub record InCall (job : Job) (test : Wanted → Bool) (c : Standing) (n : Node) : Type 0 where
+  pub along : WalksAlong job 20001 c n
+  pub told : OwnAreUpTo n.epoch n
+  pub begun : 0 < n.epoch
+  pub asks : AsksSuch test n.walk
+
+-- It stands where the node stands. No epoch has begun before its first join, and one has behind it.
 abbrev pub StandsAs : Job → Stage → Standing → Node → Type 0
 StandsAs job stage.Begins c n = (n.stage ≡ node.Begins) × IsStill c n × OwnAreUpTo n.epoch n × (n.epoch ≡ 0)
 StandsAs job (stage.Joining phase) c n = (n.stage ≡ node.Joining (phase_of phase)) × IsStill c n × HasVoted n phase
 StandsAs job stage.Arrived c n = (n.stage ≡ node.Arrived) × IsStill c n × OwnAreUpTo n.epoch n × (0 < n.epoch) × (n.calls ≡ 0)
 StandsAs job stage.Walking c n = (n.stage ≡ node.Walking) × WalksAlong job 20000 c n × OwnAreUpTo n.epoch n × (0 < n.epoch)
-StandsAs job stage.Gathering c n = (n.stage ≡ node.Calling node.Gathering) × WalksAlong job 20001 c n × OwnAreUpTo n.epoch n × (0 < n.epoch) × (at_of n.walk ≡ at.Outward)
+StandsAs job stage.Gathering c n = (n.stage ≡ node.Calling node.Gathering) × InCall job gathers_parts c n
+StandsAs job (stage.Balloting phase) c n = (n.stage ≡ node.Calling (node.Balloting (phase_of phase))) × InCall job is_agreement c n
 StandsAs job stage.Failed c n = (n.stage ≡ node.Failed) × IsStill c n × OwnAreUpTo n.epoch n × (0 < n.epoch)
 StandsAs job stage.Over c n = n.stage ≡ node.Over
 
@@ -125,6 +139,17 @@ abbrev pub IsJoining : Stage → Type 0
 IsJoining (stage.Joining phase) = Unit {0}
 IsJoining other = ⊥
 
+-- it is in the ballot of its call
+abbrev pub IsBalloting : Stage → Type 0
+IsBalloting (stage.Balloting phase) = Unit {0}
+IsBalloting other = ⊥
+
+-- it is in a call
+abbrev pub IsInCall : Stage → Type 0
+IsInCall stage.Gathering = Unit {0}
+IsInCall (stage.Balloting phase) = Unit {0}
+IsInCall other = ⊥
+
 -- it may vote so in the ballot of the next epoch: it hasn't ended, stands still, and hasn't voted there
 pub record MayVote (kind : Slot) (c : Standing) (n : Node) : Type 0 where
   pub goes_on : node.has_ended n ≡ false
@@ -148,6 +173,15 @@ pub record HasTurned (c after : Standing) (said : Poll) : Type 0 where
   pub apart : Distinct c.present
   pub same : after ≡ record c { stage = stage.Joining later }
   pub takes : (n : Node) → IsInboxOf n c.inbox → n.epoch ≡ c.epoch → n.present ≡ c.present → IsTurn (turn_in (next_ballot n) n (phase_of before)) said later
+  pub stays : Stays said before later
+
+-- it took its turn in the ballot of the agreement that it is in, and said this
+pub record HasTurnedInCall (c after : Standing) (said : Poll) : Type 0 where
+  pub before : Phase
+  pub later : Phase
+  pub at : c.stage ≡ stage.Balloting before
+  pub same : after ≡ record c { stage = stage.Balloting later }
+  pub takes : (job : Job) (n : Node) (flag : ℤ) → IsNodeOf job c n → IsTurn (turn_in (call_ballot n (wanted.Agree flag)) n (phase_of before)) said later
   pub stays : Stays said before later
 
 -- an inbox that forgot what is over at this call

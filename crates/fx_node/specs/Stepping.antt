@@ -9,8 +9,8 @@ use Rattle.fx_link.specs.declared.message.Message.{Message}
 use Rattle.fx_link.specs.declared.message.Message.TheVariants as message
 use Rattle.fx_link.specs.declared.slot.Slot.{Slot}
 use Rattle.fx_machine.specs.Messages.{message_of}
-use Rattle.fx_machine.specs.Nodes.{Node, Act, has_ended}
-use Rattle.fx_machine.specs.Numbers.{epoch_no, proc}
+use Rattle.fx_machine.specs.Nodes.{Node, Act, has_ended, procs_of}
+use Rattle.fx_machine.specs.Numbers.{call_no, epoch_no, proc}
 use Rattle.fx_machine.specs.Texts.{Text}
 use Rattle.fx_node.specs.declared.node.Moved.{Moved}
 use Rattle.fx_node.specs.declared.node.Moved.TheVariants as moved
@@ -55,6 +55,10 @@ broadcast me all message = map (λ q. (proc q, message)) (filter (λ q. not (q =
 -- the estimate that it says in the round of its own seat
 abbrev pub estimate_message : Standing → List Slot → Message
 estimate_message c slots = message.Jest (epoch_no (suc c.epoch)) (seat_of c.present c.me) slots
+
+-- the same in the ballot of its call, where its seat is its place
+abbrev pub call_estimate : Standing → List Slot → Message
+call_estimate c slots = message.Est (epoch_no c.epoch) (call_no c.calls) (seat_of (procs_of c.comm) c.me) slots
 
 -- what a print writes
 abbrev pub print_item : (me epoch : ℕ) → Printed → Item

@@ -17,8 +17,8 @@ ghost use Rattle.fx_machine.specs.Nodes as defined;
 ghost use Rattle.fx_machine.specs.Reading as reading;
 ghost use Rattle.fx_machine.specs.Steps.{in_walk, next};
 ghost use Rattle.fx_machine.specs.Waits.{Error, ByLeaving, ByLoss, returns_error};
-ghost use Rattle.fx_node.specs.Asking.{HasKind, HaveKind, IsFresh, IsTold, is_carried, part_in, share_of, taken, to_seats};
-ghost use Rattle.fx_node.specs.Standing.{ComesTo, IsNodeOf, processes};
+ghost use Rattle.fx_node.specs.Asking.{HasKind, HaveKind, IsFresh, IsTold, gathers_parts, part_in, share_of, taken, to_seats};
+ghost use Rattle.fx_node.specs.Standing.{ComesTo, IsInCall, IsNodeOf, processes};
 ghost use Rattle.fx_node.specs.Stepping.{Steps};
 ghost use Rattle.fx_node.specs.declared.node.Moved.TheVariants as Moved;
 ghost use Rattle.fx_node.specs.declared.stage.Stage.TheVariants as Stage;
@@ -32,7 +32,7 @@ ghost use Rattle.fx_walk.specs.declared.wanted.Wanted.TheVariants as wanted;
 
 use crate::node::{Moved, Node, Outbox};
 use crate::stage::Stage;
-use fx_base::{CallNo, Elems, NoMemory, Op, Place};
+use fx_base::{CallNo, Elems, NoMemory, Op, Place, Proc};
 use fx_coll::{CollPoll, Gather, Part};
 use fx_flow::{At, Wanted};
 use fx_item::{Item, Items};
@@ -52,6 +52,7 @@ impl Node {
         match self.flow.wanted(&self.view)? {
             Wanted::Barrier => self.enter_barrier(sends, items),
             Wanted::Reduce(op, number) => self.enter_reduction(op, number, sends, items),
+            Wanted::Agree(flag) => self.enter_agreement(flag, sends, items),
             Wanted::Shift(by, elements) => self.enter_shift(by, elements, sends, items),
             _ => Ok(Moved::Quiet),
         }
@@ -228,8 +229,14 @@ impl Node {
         let known = self.known_of(place, &wanted)?;
         match known.poll() {
             CollPoll::Done => self.finish(place, &wanted, &known, items),
-            CollPoll::Failed(lost) => self.fail(Place(lost), items),
-            CollPoll::Revoked(left) => self.revoke(Place(left), items),
+            CollPoll::Failed(lost) => {
+                let who = self.comm.proc_at(Place(lost));
+                self.fail(who, items)
+            }
+            CollPoll::Revoked(left) => {
+                let who = self.comm.proc_at(Place(left));
+                self.revoke(who, items)
+            }
             CollPoll::NotYet => Ok(Moved::Quiet),
         }
     }
@@ -285,9 +292,9 @@ impl Node {
         Ok(Moved::Acted)
     }
 
-    // The call returns a number.
-    fn give_number(&mut self, number: i64, items: &mut Items) -> Result<Moved, NoMemory>
-        requires gathering { self.old.stage ≡ Stage.Gathering }
+    /// The call returns a number.
+    pub(crate) fn give_number(&mut self, number: i64, items: &mut Items) -> Result<Moved, NoMemory>
+        requires in_call { IsInCall self.old.stage }
         requires need { WantsNumber self.old.flow }
         ensures gives { IfOk result (λ moved. (job : Job) (n : defined.Node) (sends : List (Proc × Message)) (place : TextPlace) (w : Asked) (state : State) (rest : Reply → Walk) → IsNodeOf job self.old n
             → n.walk ≡ Asks place w state rest
@@ -326,37 +333,35 @@ impl Node {
         Ok(Moved::Acted)
     }
 
-    // The call fails, since the process at this place is lost.
-    fn fail(&mut self, lost: Place, items: &mut Items) -> Result<Moved, NoMemory>
-        requires gathering { self.old.stage ≡ Stage.Gathering }
-        requires below { lost.0 < length self.old.comm }
+    /// The call fails, since this process is lost.
+    pub(crate) fn fail(&mut self, lost: Proc, items: &mut Items) -> Result<Moved, NoMemory>
+        requires { IsInCall self.old.stage }
         ensures fails { IfOk result (λ moved. (job : Job) (n : defined.Node) (sends : List (Proc × Message)) → IsNodeOf job self.old n
-            → Steps job n (Some (returns_error n (ByLoss (defined.proc_at n lost.0)))) moved self.new sends sends items.old items.new) }
+            → Steps job n (Some (returns_error n (ByLoss lost.0))) moved self.new sends sends items.old items.new) }
         ensures of_all { processes self.new ≡ processes self.old }
     {
         items.push(Item::Failed {
             p: self.me,
             e: self.epoch,
             k: CallNo(self.calls),
-            x: self.comm.proc_at(lost),
+            x: lost,
         })?;
         self.stage = Stage::Failed;
         Ok(Moved::Acted)
     }
 
-    // The call is revoked, since the process at this place left.
-    fn revoke(&mut self, left: Place, items: &mut Items) -> Result<Moved, NoMemory>
-        requires gathering { self.old.stage ≡ Stage.Gathering }
-        requires below { left.0 < length self.old.comm }
+    /// The call is revoked, since this process left.
+    pub(crate) fn revoke(&mut self, left: Proc, items: &mut Items) -> Result<Moved, NoMemory>
+        requires { IsInCall self.old.stage }
         ensures revokes { IfOk result (λ moved. (job : Job) (n : defined.Node) (sends : List (Proc × Message)) → IsNodeOf job self.old n
-            → Steps job n (Some (returns_error n (ByLeaving (defined.proc_at n left.0)))) moved self.new sends sends items.old items.new) }
+            → Steps job n (Some (returns_error n (ByLeaving left.0))) moved self.new sends sends items.old items.new) }
         ensures of_all { processes self.new ≡ processes self.old }
     {
         items.push(Item::Revoked {
             p: self.me,
             e: self.epoch,
             k: CallNo(self.calls),
-            x: self.comm.proc_at(left),
+            x: left,
         })?;
         self.stage = Stage::Failed;
         Ok(Moved::Acted)
@@ -368,7 +373,7 @@ impl Node {
         requires below { place.0 < length self.now.comm }
         ensures many { IfOk result (λ known. length known ≡ length self.now.comm) }
         ensures kind { IfOk result (λ known. HaveKind wanted.now known) }
-        ensures stands { IfOk result (λ known. (job : Job) (n : defined.Node) → IsNodeOf job self.now n → is_carried wanted.now ≡ true → StandsFor known n wanted.now) }
+        ensures stands { IfOk result (λ known. (job : Job) (n : defined.Node) → IsNodeOf job self.now n → gathers_parts wanted.now ≡ true → StandsFor known n wanted.now) }
     {
         let size = self.comm.size();
         let own = own_part(wanted)?;
@@ -393,7 +398,7 @@ impl Node {
         requires all { length known.old ≡ length self.now.comm }
         ensures others { (x : ℕ) → x ≢ one.0 → known_at known.new x ≡ known_at known.old x }
         ensures kind { HaveKind wanted.now known.old → HaveKind wanted.now known.new }
-        ensures this { OnOk result ((job : Job) (n : defined.Node) → IsNodeOf job self.now n → is_carried wanted.now ≡ true → IsFresh n wanted.now (known_at known.old one.0) one.0
+        ensures this { OnOk result ((job : Job) (n : defined.Node) → IsNodeOf job self.now n → gathers_parts wanted.now ≡ true → IsFresh n wanted.now (known_at known.old one.0) one.0
             → IsTold n wanted.now (known_at known.new one.0) one.0) }
         ensures keeps { length known.new ≡ length known.old }
     {

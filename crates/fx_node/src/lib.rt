@@ -1,6 +1,7 @@
 //! A process as it runs: it moves by its own state, by what others send to it, and by what it is told of losses, alone.
 #![tactic(auto)]
 
+mod agree;
 mod call;
 mod node;
 mod stage;

@@ -227,6 +227,7 @@ impl Node {
             Stage::Arrived => self.arrive(sends, items),
             Stage::Walking => self.walk(sends, items),
             Stage::Gathering => self.gather(items),
+            Stage::Balloting(_) => self.take_call_turn(sends, items),
             Stage::Failed => self.join(Slot::Error, sends, items),
             Stage::Over => Ok(Moved::Ended),
         }

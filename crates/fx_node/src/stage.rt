@@ -13,6 +13,8 @@ pub enum Stage {
     Walking,
     /// It is in the call at which the body stands, and gathers the parts of all.
     Gathering,
+    /// It is in the ballot of the call at which the body stands.
+    Balloting(Phase),
     /// Its call failed or was revoked.
     Failed,
     /// It has ended.

@@ -24,6 +24,12 @@ const BARRIER_STRUCK: &str =
 const BARRIER_REVOKED: &str =
     "fenix 1|ranks 3|spares 0|separation 1|begin|barrier|barrier|end|schedule|step 0|step 1|step 2|run 1|deliver 2 1|rest 1|kill 1|notice 1 0|deliver 2 0|rest 0|deliver 0 2|deliver 0 2|rest 2|deliver 1 2|rest 2|stop|";
 
+const AGREED: &str =
+    "fenix 1|ranks 2|spares 0|separation 1|array a 1|counter c|begin|let a - 6 rank|agree c a 0|print c|end|schedule|stop|";
+
+const AGREEMENT_STRUCK: &str =
+    "fenix 1|ranks 3|spares 0|separation 1|array a 1|counter c|begin|let a - 6 rank|agree c a 0|print c|end|schedule|run 1|rest 0|rest 1|rest 2|deliver 0 1|kill 2|run 3|stop|";
+
 const ALONE: &str =
     "fenix 1|ranks 1|spares 0|separation 1|array a 1|begin|print a|end|schedule|stop|";
 
@@ -43,7 +49,7 @@ struct Run {
     ended: u64,
 }
 
-const RUNS: [Run; 7] = [
+const RUNS: [Run; 9] = [
     Run {
         shows: "two ranks and a spare",
         source: SPARE,
@@ -111,6 +117,26 @@ const RUNS: [Run; 7] = [
         written: "join 0 1 start|join 1 1 start|join 2 1 start|repaired 2 1 3 full : 0=0 1=1 2=2|init 2 1 initial 2 2 3 full|barrier 2 1 1|repaired 1 1 3 full : 0=0 1=1 2=2|init 1 1 initial 1 1 3 full|barrier 1 1 1|kill 1|repaired 0 1 3 full : 0=0 1=1 2=2|init 0 1 initial 0 0 3 full|barrier 0 1 1|failed 0 1 1 1|join 0 2 error|passed 2 1 1|barrier 2 1 2|revoked 2 1 2 0|join 2 2 error|repaired 2 2 2 spares-depleted : 0=0 2=2|init 2 2 survivor 2 1 2 spares-depleted|barrier 2 2 1|repaired 0 2 2 spares-depleted : 0=0 2=2|init 0 2 survivor 0 0 2 spares-depleted|barrier 0 2 1|passed 0 2 1|barrier 0 2 2|passed 2 2 1|barrier 2 2 2|passed 2 2 2|join 2 3 final|passed 0 2 2|join 0 3 final|ended 2|ended 0|",
         epochs: 2,
         inits: 5,
+        kills: 1,
+        ended: 2,
+    },
+    Run {
+        shows: "an agreement",
+        source: AGREED,
+        shown: Shown::Wire,
+        written: "join 0 1 start|send 0 1 join 1 start|deliver 0 1 join 1 start|join 1 1 start|send 1 0 join 1 start|deliver 1 0 join 1 start|send 0 1 jest 1 0 start,start|deliver 0 1 jest 1 0 start,start|send 1 0 jest 1 1 start,start|repaired 1 1 2 full : 0=0 1=1|init 1 1 initial 1 1 2 full|agree 1 1 1 5|send 1 0 vote 1 1 yes=5|deliver 1 0 jest 1 1 start,start|deliver 1 0 vote 1 1 yes=5|repaired 0 1 2 full : 0=0 1=1|init 0 1 initial 0 0 2 full|agree 0 1 1 6|send 0 1 vote 1 1 yes=6|send 0 1 est 1 1 0 yes=6,yes=5|deliver 0 1 vote 1 1 yes=6|deliver 0 1 est 1 1 0 yes=6,yes=5|send 1 0 est 1 1 1 yes=6,yes=5|value 1 1 1 4|print 1 1 c : 4|join 1 2 final|send 1 0 join 2 final|deliver 1 0 est 1 1 1 yes=6,yes=5|deliver 1 0 join 2 final|value 0 1 1 4|print 0 1 c : 4|join 0 2 final|send 0 1 join 2 final|send 0 1 jest 2 0 final,final|deliver 0 1 join 2 final|deliver 0 1 jest 2 0 final,final|send 1 0 jest 2 1 final,final|ended 1|deliver 1 0 jest 2 1 final,final|ended 0|",
+        epochs: 1,
+        inits: 2,
+        kills: 0,
+        ended: 2,
+    },
+    Run {
+        shows: "an agreement that fails by a loss at each",
+        source: AGREEMENT_STRUCK,
+        shown: Shown::Journal,
+        written: "join 0 1 start|join 1 1 start|join 2 1 start|kill 2|repaired 1 1 3 full : 0=0 1=1 2=2|init 1 1 initial 1 1 3 full|agree 1 1 1 5|repaired 0 1 3 full : 0=0 1=1 2=2|init 0 1 initial 0 0 3 full|agree 0 1 1 6|failed 1 1 1 2|join 1 2 error|failed 0 1 1 2|join 0 2 error|repaired 1 2 2 spares-depleted : 0=0 1=1|init 1 2 survivor 1 1 2 spares-depleted|agree 1 2 1 5|repaired 0 2 2 spares-depleted : 0=0 1=1|init 0 2 survivor 0 0 2 spares-depleted|agree 0 2 1 6|value 1 2 1 4|print 1 2 c : 4|join 1 3 final|value 0 2 1 4|print 0 2 c : 4|join 0 3 final|ended 1|ended 0|",
+        epochs: 2,
+        inits: 4,
         kills: 1,
         ended: 2,
     },

@@ -1,12 +1,14 @@
--- Texts and messages are one to one for what is sent so far: votes and estimates of ballots of epochs, and parts of barriers and reductions.
+-- Texts and messages are one to one for what is sent so far: votes and estimates of ballots of epochs, parts of barriers, reductions and shifts, and votes and
+-- estimates of agreements.
 use Rattle.std.proofs.Common.{◌≡◌, ℕ, suc, Bool, true, false, List, [], ◌∷◌, ◌++◌, map, Option, Some, None, refl, sym, ap, subst, ◌∙◌}
 use Rattle.std.specs.Prelude.{if◌then◌else◌, ◌==◌, not, option_map, ℤ}
+use Rattle.std.proofs.lemmas.Bool.{true≢false}
 use Rattle.std.specs.FinMap as finite
 use Rattle.std.specs.List.{enumerate_from, filter, flat_map}
 use Rattle.fx_ballot.specs.declared.poll.Poll.{Poll}
 use Rattle.fx_ballot.specs.declared.poll.Poll.TheVariants as poll
 use Rattle.fx_ballot.specs.Names.{seat_of}
-use Rattle.fx_ballot.specs.Turn.{Turn}
+use Rattle.fx_ballot.specs.Turn.{Phase, Turn}
 use Rattle.fx_base.specs.declared.names.Stamp.{Stamp}
 use Rattle.fx_base.specs.declared.shares.StampShares.{StampShares}
 use Rattle.fx_comm.specs.Seats.{has_place}
@@ -16,24 +18,24 @@ use Rattle.fx_link.specs.declared.message.Message.TheVariants as message
 use Rattle.fx_link.specs.declared.slot.Slot.{Slot}
 use Rattle.fx_link.specs.declared.slot.Slot.TheVariants as slot
 use Rattle.fx_machine.specs.Asking.{asked, part}
-use Rattle.fx_machine.specs.Calls.{in_asked_call, in_call}
+use Rattle.fx_machine.specs.Calls.{affirmed, balloting, decides_call, in_asked_call, in_call, unless_error}
 use Rattle.fx_machine.specs.Gathering.{are_gathered, gathering_error, numbers_of, passes, returns_elements, returns_number, source_of, target_of, total}
-use Rattle.fx_machine.specs.Waits.{Error, ByLeaving, ByLoss, returns_error}
+use Rattle.fx_machine.specs.Waits.{Error, ByLeaving, ByLoss, all_agree, call_ballot, first_error, returns_error}
 use Rattle.fx_machine.specs.Ballots.{arrived, decides_epoch, ends, is_end, joined, joins, may_join, repairs, turned, voters}
 use Rattle.fx_machine.specs.Messages.{known_message, known_text, message_of, packed_of, shares_of, wire_text}
 use Rattle.fx_machine.specs.Nodes as node
 use Rattle.fx_machine.specs.Nodes.{Node, Act, members, my_place, size, to_others}
-use Rattle.fx_machine.specs.Reading.{is_join, next_ballot, turn_in}
+use Rattle.fx_machine.specs.Reading.{Ballot, estimate_text, is_join, next_ballot, turn_in}
 use Rattle.fx_machine.specs.Setup.{Setup}
 use Rattle.fx_machine.specs.Steps.{next, next_at, in_arrival, in_walk, inits, may_help_out}
-use Rattle.fx_machine.specs.Texts.{Text, Join, Jest}
+use Rattle.fx_machine.specs.Texts.{Text, Join, Vote}
 use Rattle.fx_node.specs.declared.stage.Stage.{Stage}
 use Rattle.fx_node.specs.declared.stage.Stage.TheVariants as stage
 use Rattle.fx_node.specs.Standing.{Standing, IsNodeOf, StandsAs}
 use Rattle.fx_inbox.specs.Turns.{phase_of}
 use Rattle.fx_script.specs.declared.job.Job.{Job}
 use Rattle.fx_store.proofs.Meanings.{from_sorted_again}
-use Rattle.fx_node.specs.Asking.{OnlyCarried, is_carried}
+use Rattle.fx_node.specs.Asking.{AsksSuch, OnlyCarried, is_agreement, is_carried}
 use Rattle.fx_walk.specs.Walk.{Walk, Ends, Passes, Prints, Asks, Reply, stamp_at}
 use Rattle.fx_walk.specs.declared.wanted.Wanted.{Wanted}
 use Rattle.fx_walk.specs.declared.wanted.Wanted.TheVariants as wanted
@@ -68,14 +70,19 @@ decision_fits s n slots = by (is_end n slots)
     by true = tt
     by false = tt
 
-turn_fits : (s : Setup) (n : Node) (t : Turn) → ActFits (turned (next_ballot n) n node.Joining (λ slots. Some (decides_epoch s n slots)) t)
-turn_fits s n t = by t.poll
+-- what a turn says is an estimate in its ballot
+turned_fits : (b : Ballot) (n : Node) (at : Phase → node.Stage) (decides : List Slot → Option Act) (t : Turn)
+    → ((r : ℕ) (slots : List Slot) → wire_text (message_of (estimate_text b.about r slots)) ≡ estimate_text b.about r slots) → ((slots : List Slot) → ActFits (decides slots)) → ActFits (turned b n at decides t)
+turned_fits b n at decides t fit decided = by t.poll
   where
-    by : (p : Poll) → ActFits (turned (next_ballot n) n node.Joining (λ slots. Some (decides_epoch s n slots)) (record t { poll = p }))
+    by : (p : Poll) → ActFits (turned b n at decides (record t { poll = p }))
     by poll.NotYet = tt
     by poll.Moved = tt
-    by (poll.SendEstimate slots) = others n.me n.present (Jest (suc n.epoch) (seat_of n.present n.me) slots) refl
-    by (poll.Decided slots) = decision_fits s n slots
+    by (poll.SendEstimate slots) = others n.me b.members (estimate_text b.about (seat_of b.members n.me) slots) (fit (seat_of b.members n.me) slots)
+    by (poll.Decided slots) = decided slots
+
+turn_fits : (s : Setup) (n : Node) (t : Turn) → ActFits (turned (next_ballot n) n node.Joining (λ slots. Some (decides_epoch s n slots)) t)
+turn_fits s n t = turned_fits (next_ballot n) n node.Joining (λ slots. Some (decides_epoch s n slots)) t (λ r slots. refl) (decision_fits s n)
 
 arrival_fits : (s : Setup) (n : Node) → ActFits (in_arrival s n)
 arrival_fits s n =
@@ -100,7 +107,7 @@ to_each me meant fit (p ∷ places) = one (p.1 == me) (to_each me meant fit plac
 asked_fits : (s : Setup) (n : Node) (w : Wanted) (rest : Reply → Walk) → is_carried w ≡ true → ActFits (Some (asked s n rest w))
 asked_fits s n wanted.Barrier rest is = to_each n.me (λ x. part n []) (λ x. refl) (enumerate_from 0 (members n))
 asked_fits s n (wanted.Reduce op own) rest is = to_each n.me (λ x. part n (own ∷ [])) (λ x. refl) (enumerate_from 0 (members n))
-asked_fits s n (wanted.Agree flag) rest is = absurd cc
+asked_fits s n (wanted.Agree flag) rest is = others n.me (members n) (Vote n.epoch (suc n.calls) (slot.Flag flag)) refl
 asked_fits s n (wanted.Shift by elements) rest is =
     to_each n.me (λ x. part n (if x == target_of (size n) by (my_place n) then elements else [])) (λ x. refl) (enumerate_from 0 (members n))
 asked_fits s n (wanted.Group g start depth) rest is = absurd cc
@@ -140,7 +147,7 @@ call_fits s n (wanted.Shift by elements) rest is = by_parts (are_gathered n (wan
     by_parts false None = tt
     by_parts false (Some (ByLoss p)) = tt
     by_parts false (Some (ByLeaving p)) = tt
-call_fits s n (wanted.Agree flag) rest is = absurd cc
+call_fits s n (wanted.Agree flag) rest is = tt
 call_fits s n (wanted.Group g start depth) rest is = absurd cc
 call_fits s n (wanted.Attach g m) rest is = absurd cc
 call_fits s n (wanted.Store g m piece) rest is = absurd cc
@@ -156,6 +163,28 @@ gather_fits s n (Passes rest) only = tt
 gather_fits s n (Prints printed rest) only = tt
 gather_fits s n (Asks place w state rest) only = call_fits s n w rest only.0
 
+-- in the ballot of an agreement estimates are sent, and nothing at its end
+agreement_fits : (s : Setup) (n : Node) (flag : ℤ) (rest : Reply → Walk) (slots : List Slot) → ActFits (decides_call s n (wanted.Agree flag) rest slots)
+agreement_fits s n flag rest slots = by_error (first_error (members n) slots)
+  where
+    agreed : (b : Bool) → ActFits (if b then affirmed s n (wanted.Agree flag) rest slots else None)
+    agreed true = tt
+    agreed false = tt
+
+    by_error : (e : Option Error) → ActFits (unless_error s n (wanted.Agree flag) rest slots e)
+    by_error None = agreed (all_agree slots)
+    by_error (Some (ByLoss p)) = tt
+    by_error (Some (ByLeaving p)) = tt
+
+ballot_fits : (s : Setup) (n : Node) (phase : Phase) (walk : Walk) → AsksSuch is_agreement walk → ActFits (in_asked_call s n (node.Balloting phase) walk)
+ballot_fits s n phase (Ends state) asks = tt
+ballot_fits s n phase (Passes rest) asks = tt
+ballot_fits s n phase (Prints printed rest) asks = tt
+ballot_fits s n phase (Asks place (wanted.Agree flag) state rest) asks =
+    turned_fits (call_ballot n (wanted.Agree flag)) n balloting (decides_call s n (wanted.Agree flag) rest) (turn_in (call_ballot n (wanted.Agree flag)) n phase) (λ r slots. refl)
+    (agreement_fits s n flag rest)
+ballot_fits s n phase (Asks place other state rest) asks = absurd (true≢false (sym asks))
+
 at : (s : Setup) (n : Node) {stage : node.Stage} → n.stage ≡ stage → ActFits (next_at s n stage) → ActFits (next s n)
 at s n e fits = subst (λ stage. ActFits (next_at s n stage)) (sym e) fits
 
@@ -164,7 +193,8 @@ stage_fits s job c n stage.Begins is = at s n is.0 (joins_fit slot.Start n)
 stage_fits s job c n (stage.Joining phase) is = at s n is.0 (turn_fits s n (turn_in (next_ballot n) n (phase_of phase)))
 stage_fits s job c n stage.Arrived is = at s n is.0 (arrival_fits s n)
 stage_fits s job c n stage.Walking is = at s n is.0 (walk_fits s n n.walk is.1.carried)
-stage_fits s job c n stage.Gathering is = at s n is.0 (gather_fits s n n.walk is.1.carried)
+stage_fits s job c n stage.Gathering is = at s n is.0 (gather_fits s n n.walk is.1.along.carried)
+stage_fits s job c n (stage.Balloting phase) is = at s n is.0 (ballot_fits s n (phase_of phase) n.walk is.1.asks)
 stage_fits s job c n stage.Failed is = at s n is.0 (joins_fit slot.Error n)
 stage_fits s job c n stage.Over is = at s n is tt
 

@@ -37,8 +37,8 @@ use std::mem;
 /// All processes of a job, what is under way between them, and the counts of all that was told. Each process that is handed in,
 /// also in a moment, is below the number of processes of the job.
 ///
-/// What is promised of a call holds of jobs whose bodies ask nothing of others but barriers and reductions; each call on any
-/// job returns. After `WriteFault` nothing more is known of the world, and each later call still returns one of its answers.
+/// What is promised of a call holds of jobs whose bodies ask nothing of others but barriers, reductions, shifts and
+/// agreements; each call on any job returns. After `WriteFault` nothing more is known of the world, and each later call still returns one of its answers.
 /// After `NoMemory` every later call answers that, and does nothing.
 #[derive(Debug, Drop)]
 pub struct World {

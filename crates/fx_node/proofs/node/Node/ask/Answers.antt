@@ -40,6 +40,19 @@ returns-in-Reduce-clause-steps c =
     let fits : SFits w64 c.in-Reduce.number = search rules in
     (rw (to_z-of_z {w = w64} {z = c.in-Reduce.number} fits) at steps) job n place state rest is at)) c.enter_reduction.ensures.steps
 
+pub returns-in-Agree-clause-steps : goal.returns-in-Agree-clause-steps
+returns-in-Agree-clause-steps c =
+    let now = sym c.self.view_is in
+    let walking : (the_view c.self.inside).stage ≡ stage.Walking = subst (λ (s : Standing). s.stage ≡ stage.Walking) now c.requires.walking in
+    if_ok c.enter_agreement.result _ _ (λ moved steps. λ job n is.
+    asks_so job (the_view c.self.inside) n (wanted.Agree c.in-Agree.flag)
+    (λ (walk : Walk). Steps job n (in_walk (job_setup job) n walk) moved c.enter_agreement.new.self c.args.sends.now c.enter_agreement.new.sends c.args.items.now c.enter_agreement.new.items)
+    (subst (λ (s : Standing). IsNodeOf job s n) now is) walking
+    (subst (λ (x : Wanted). (walk : Walk) → DoesRest c.self.inside.view walk c.self.inside.flow → AsksFor walk x) c.in-Agree.is c.in_ok-wanted.ensures.asked)
+    (λ place state rest at.
+    let fits : SFits w64 c.in-Agree.flag = search rules in
+    (rw (to_z-of_z {w = w64} {z = c.in-Agree.flag} fits) at steps) job n place state rest is at)) c.enter_agreement.ensures.steps
+
 pub returns-in-Shift-clause-steps : goal.returns-in-Shift-clause-steps
 returns-in-Shift-clause-steps c =
     let now = sym c.self.view_is in

@@ -1,12 +1,11 @@
-use Rattle.std.proofs.Common.{◌≡◌, subst, sym}
+use Rattle.std.proofs.Common.{subst, sym}
 use Rattle.fx_node.specs.contracts.node.Node.{the_view}
-use Rattle.fx_node.specs.declared.stage.Stage.TheVariants as stage
-use Rattle.fx_node.specs.Standing.{IsNodeOf, Standing}
+use Rattle.fx_node.specs.Standing.{IsInCall, IsNodeOf, Standing}
 use Rattle.fx_node.proofs.Calling.{fails_so}
 use Rattle.fx_node.proofs.node.Node.fail.Goals as goal
 
 pub returns-clause-fails : goal.returns-clause-fails
 returns-clause-fails c = λ job n sends is.
     let now = sym c.self.view_is in
-    fails_so job (the_view c.self.inside) n c.args.lost.0 c.proc_at.result sends c.args.items.now c.push.new.self (subst (λ (s : Standing). IsNodeOf job s n) now is)
-    (subst (λ (s : Standing). s.stage ≡ stage.Gathering) now c.requires.gathering) c.proc_at.ensures.there c.in_ok-push.ensures.ok
+    fails_so job (the_view c.self.inside) n c.args.lost sends c.args.items.now c.push.new.self (subst (λ (s : Standing). IsNodeOf job s n) now is)
+    (subst (λ (s : Standing). IsInCall s.stage) now c.requires) c.in_ok-push.ensures.ok
