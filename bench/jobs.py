@@ -66,6 +66,20 @@ def meeting(ranks, turns):
     return declared + f"for c 0 {turns - 1}\nbarrier\nendfor\n" + TAIL
 
 
+def calling(ranks, turns, spares, kills):
+    """A job of so many ranks that make four kinds of calls in turn: two rounds and up to 29 steps in front of each kill."""
+    below = numbers(7)
+    events = []
+    for _ in range(kills):
+        steps = below(30)
+        events += ["run 2"] + [f"step {below(ranks + spares)}" for _ in range(steps)]
+        events.append(f"kill {below(ranks + spares)}")
+    head = f"fenix 1\nranks {ranks}\nspares {spares}\nseparation 1\n"
+    declared = "array a 64\narray b 64\ncounter c\ncounter d\nbegin\n"
+    body = f"for c 0 {turns - 1}\nsum d a\nagree d a 0\nshift b a 1\nbarrier\nendfor\nprint b\n"
+    return head + declared + body + "end\nschedule\n" + "".join(event + "\n" for event in events) + "stop\n"
+
+
 def filled(size, start, piece, behind):
     """A job of at most `size` bytes with `piece` again and again between a start and what is behind."""
     room = size - len(start) - len(behind)
@@ -110,9 +124,11 @@ def jobs():
     for ranks, spares, kills in ((8, 8, 8), (4, 12, 12)):
         yield f"losses_{ranks}_{spares}_{kills}", losing(ranks, spares, kills), DONE
 
-    # Calls: many barriers, one after another.
+    # Calls, one after another: barriers alone, and all kinds in turn.
     for ranks, turns in ((4, 500), (16, 500), (16, 2_000)):
         yield f"barriers_{ranks}_{turns}", meeting(ranks, turns), DONE
+    yield "calls_16_100", calling(16, 100, 0, 0), DONE
+    yield "calls_8_400_losses", calling(8, 400, 8, 8), DONE
 
     # What is read alone: 17 ranks are refused at the second line.
     opened, closed = "when initial\n" * 64, "endwhen\n" * 64

@@ -44,7 +44,7 @@ for file in "$jobs"/*.job; do
     check_*) modes=check ;;
     plain_* | events_* | losses_*) modes='run wire' ;;
     barriers_16_2000) modes=run ;;
-    barriers_*) modes='run wire' ;;
+    barriers_* | calls_*) modes='run wire' ;;
     *) modes=run ;;
     esac
     for mode in $modes; do

@@ -495,6 +495,7 @@ module _ (job : Job) (w : World) (z : ℕ → ballot.World) (fate : ℕ → Opti
       still_inside texts =
           let x = (gathers.inside job w z fate l polls p facts) (Balloting old) asks_flag rest i in
           record {
+            shaped = (walks.mine_before job w z fate l polls p facts).shaped;
             uncreated = (walks.mine_before job w z fate l polls p facts).uncreated;
             past = (walks.mine_before job w z fate l polls p facts).past;
             at = record {
@@ -793,6 +794,6 @@ module _ (job : Job) (w : World) (z : ℕ → ballot.World) (fate : ℕ → Opti
               joined = refl;
               chapters = refl;
               kills = refl;
-            }) refl (ap (λ (o : ℤ). Some o) bits) all_entered_it
+            }) refl (ap (λ (o : ℤ). Some o) bits) tt all_entered_it
             (heeds_last bits_item (goes_on rest (Number (common_bits slots)) n) (written job l bits_item)
             ((gathers.return_grows job w z fate l polls p facts) (Balloting old) asks_flag rest i (written job l bits_item) (effects.returned l.groups (Number (common_bits slots)) (l.stands n.me)) refl refl refl refl) refl refl says_bits refl refl (λ c. refl))

@@ -7,13 +7,11 @@ use Rattle.fx_link.specs.declared.slot.Slot.{Slot}
 use Rattle.fx_link.specs.declared.slot.Slot.TheVariants as slot
 use Rattle.fx_script.specs.declared.job.Job.{Job}
 use Rattle.fx_ballot.specs.Laws.{vote_of}
-use Rattle.fx_check.specs.Facts.{facts_of}
-use Rattle.fx_walk.specs.declared.action.View.{View}
 use Rattle.fx_walk.specs.declared.wanted.Wanted.{Wanted}
 use Rattle.fx_walk.specs.declared.wanted.Wanted.TheVariants as wanted
 use Rattle.fx_walk.specs.Plan.{Plan, Stops, Meets, StopsAs}
 use Rattle.fx_walk.specs.State.{State}
-use Rattle.fx_walk.specs.Walk.{Walk, walk_of}
+use Rattle.fx_walk.specs.Walk.{Walk}
 use Rattle.fx_machine.specs.Nodes.{Node, Act, Stage, Walking, Calling, Failed, has_ended}
 use Rattle.fx_machine.specs.Setup.{Setup}
 use Rattle.fx_machine.specs.Steps.{next}
@@ -29,8 +27,7 @@ use Rattle.fx_losses.specs.Losses.{HasLoss, RepairLosses}
 use Rattle.fx_losses.proofs.Moves.{each_node}
 use Rattle.fx_losses.proofs.Shows.{up_parts}
 use Rattle.fx_losses.proofs.Voted.{losses_more}
-use Rattle.fx_calls.specs.Bodies.{IsOfNoGroup, IsOfSums, IsUnshifted, OnlyAsks, AsksNoGroups}
-use Rattle.fx_calls.proofs.Bodies.{asks_more, unshifted_of_no_group}
+use Rattle.fx_calls.specs.Bodies.{IsOfNoGroup, OnlyAsks, AsksNoGroups}
 use Rattle.fx_calls.proofs.Deeds.{deed_does}
 use Rattle.fx_calls.proofs.Legally.{Legally, noted_more, acts_legally, acts_polls, acts_said}
 use Rattle.fx_calls.proofs.Hearings.{Polls, PollsGrow}
@@ -50,39 +47,29 @@ pub record Finished (job : Job) (l : Ledger) (d : ℕ) : Type 0 where
 abbrev pub IsCaused : Job → Ledger → ℕ → Slot → Type 0
 IsCaused job l d v = ((v ≡ slot.Final) × Finished job l d) ⊎ HasLoss l d
 
--- a body that asks nothing but what it may
-abbrev pub BodyAsks : (Wanted → Type 0) → Job → Type 0
-BodyAsks May job = (view : View) (state : State) → OnlyAsks May (walk_of (facts_of job) job.body view state)
-
--- and so does what is left of its walk
-abbrev pub AsksAt : (Wanted → Type 0) → Stage → Walk → Type 0
-AsksAt May Walking walk = OnlyAsks May walk
-AsksAt May (Calling core) walk = OnlyAsks May walk
-AsksAt May other walk = Unit {0}
-
-abbrev pub SumsAt : Stage → Walk → Type 0
-SumsAt stage walk = AsksAt IsOfSums stage walk
+-- what is left of its walk asks nothing of data groups
+abbrev pub AsksAt : Stage → Walk → Type 0
+AsksAt Walking walk = OnlyAsks IsOfNoGroup walk
+AsksAt (Calling core) walk = OnlyAsks IsOfNoGroup walk
+AsksAt other walk = Unit {0}
 
 -- who entered an agreement has voted there
 abbrev pub HaveVoted : Ledger → Polls → Type 0
 HaveVoted l polls = (e k q : ℕ) (flag : ℤ) → l.entered e k q ≡ Some (wanted.Agree flag) → is_some (vote_of (polls e k) q) ≡ true
 
-pub record Causes (May : Wanted → Type 0) (job : Job) (w : World) (l : Ledger) : Type 0 where
+pub record Causes (job : Job) (w : World) (l : Ledger) : Type 0 where
   pub begun : (d q : ℕ) (v : Slot) → l.joined (suc d) q ≡ Some v → is_some (l.chapters d) ≡ true
   pub kinds : (d q : ℕ) (v : Slot) → 0 < d → l.joined (suc d) q ≡ Some v → has_place (comm_in l d) q ≡ true → IsCaused job l d v
   pub failures : (q : ℕ) → w.killed q ≡ false → (w.node q).stage ≡ Failed → HasLoss l (w.node q).epoch
-  pub sums : (q : ℕ) → w.killed q ≡ false → AsksAt May (w.node q).stage (w.node q).walk
+  pub asks : (q : ℕ) → w.killed q ≡ false → AsksAt (w.node q).stage (w.node q).walk
 
--- the world of a body that asks nothing but what it may
-pub record CausedOf (May : Wanted → Type 0) (job : Job) (ps : List ℕ) (w : World) : Type 0 where
+-- the world of a body that asks nothing of data groups
+pub record Caused (job : Job) (ps : List ℕ) (w : World) : Type 0 where
   pub legally : Legally job ps w
-  pub causes : Causes May job w (ledger_of job (noted w.items))
+  pub causes : Causes job w (ledger_of job (noted w.items))
   pub voted : HaveVoted (ledger_of job (noted w.items)) legally.polls
   pub losses : RepairLosses job (first_ledger job) (noted w.items)
   pub said : Said (job_setup job) w (ledger_of job (noted w.items)) legally.polls
-
-abbrev pub Caused : Job → List ℕ → World → Type 0
-Caused job ps w = CausedOf IsOfSums job ps w
 
 -- an epoch of which somebody has a place has begun
 pub place_begun : (l : Ledger) (e q : ℕ) → has_place (comm_in l e) q ≡ true → is_some (l.chapters e) ≡ true
@@ -111,16 +98,12 @@ asked_at entered (s ∷ seats) q all place = of (s.1.0 == q) refl place (λ i. a
 -- a walk at its end is at the end of the plan
 pub finished_at : (job : Job) (l : Ledger) (d k : ℕ) (state : State) (u : Plan) → PlanAt job l d k u → StopsAs u state → Finished job l d
 finished_at job l d k state (Stops counters) at stops = record { calls = k; counters = counters; at = at }
-finished_at job l d k state (Meets spot common counters rest) at stops = absurd stops
+finished_at job l d k state (Meets spot common source counters rest) at stops = absurd stops
 
 -- ---- a step
 
--- a body that asks only what is unshifted asks nothing of data groups
-pub no_groups : (May : Wanted → Type 0) → ((v : Wanted) → May v → IsUnshifted v) → (job : Job) → BodyAsks May job → AsksNoGroups job
-no_groups May less job asks view state = asks_more May IsOfNoGroup (λ v may. unshifted_of_no_group v (less v may)) (walk_of (facts_of job) job.body view state) (asks view state)
-
-module _ (May : Wanted → Type 0) (less : (v : Wanted) → May v → IsUnshifted v) (job : Job) (rules : KeepsByParts job) (planned : HavePlans job) (asks : BodyAsks May job) (ps : List ℕ) (p : ℕ) (w : World) (act : Act)
-    (on : up (job_setup job) w p ≡ true) (e : next (job_setup job) (w.node p) ≡ Some act) (caused : CausedOf May job ps w) where
+module _ (job : Job) (rules : KeepsByParts job) (planned : HavePlans job) (asks : AsksNoGroups job) (ps : List ℕ) (p : ℕ) (w : World) (act : Act)
+    (on : up (job_setup job) w p ≡ true) (e : next (job_setup job) (w.node p) ≡ Some act) (caused : Caused job ps w) where
   abbrev s : Setup
   s = job_setup job
 
@@ -139,7 +122,7 @@ module _ (May : Wanted → Type 0) (less : (v : Wanted) → May v → IsUnshifte
   abbrev m : Ledger
   m = written_all job l (noted act.items)
 
-  abbrev causes : Causes May job w l
+  abbrev causes : Causes job w l
   causes = caused.causes
 
   k : (p < s.procs) × (w.killed p ≡ false) × (has_ended n ≡ false)
@@ -147,7 +130,7 @@ module _ (May : Wanted → Type 0) (less : (v : Wanted) → May v → IsUnshifte
 
   o : Does job p act w is.worlds is.fate l is.polls
   o = deed_does job w is.worlds is.fate l is.polls p
-      (record { rules = rules; planned = planned; asks = no_groups May less job asks; here = on; shows = is.shows; truthful = is.truthful; linked = is.linked; stepped = is.stepped; spoken = is.spoken; polled = is.polled; delivered = is.delivered }) act (is_deed s (w.node p) act e)
+      (record { rules = rules; planned = planned; asks = asks; here = on; shows = is.shows; truthful = is.truthful; linked = is.linked; stepped = is.stepped; spoken = is.spoken; polled = is.polled; delivered = is.delivered }) act (is_deed s (w.node p) act e)
 
   more : noted (does s p act w).items ≡ noted w.items ++ noted act.items
   more = noted_more p w.items act.items act.sends
@@ -160,20 +143,20 @@ module _ (May : Wanted → Type 0) (less : (v : Wanted) → May v → IsUnshifte
   JoinsSo = (x q : ℕ) (v : Slot) → m.joined (suc x) q ≡ Some v → (l.joined (suc x) q ≡ Some v) ⊎ ((is_some (l.chapters x) ≡ true) × (0 < x → has_place (comm_in l x) q ≡ true → IsCaused job l x v))
 
   abbrev pub later : Legally job ps (does (job_setup job) p act w)
-  later = acts_legally job rules planned (no_groups May less job asks) ps p w act on e is
+  later = acts_legally job rules planned asks ps p w act on e is
 
   -- who enters an agreement votes there
   abbrev VotesSo : Type 0
   VotesSo = (x j q : ℕ) (flag : ℤ) → m.entered x j q ≡ Some (wanted.Agree flag) → (l.entered x j q ≡ Some (wanted.Agree flag)) ⊎ (is_some (vote_of (later.polls x j) q) ≡ true)
 
-  pub build : JoinsSo → VotesSo → (act.node.stage ≡ Failed → HasLoss l act.node.epoch) → AsksAt May act.node.stage act.node.walk → RepairLosses job l (noted act.items) → CausedOf May job ps (does (job_setup job) p act w)
-  build joins votes failed sums losses = record {
-    legally = acts_legally job rules planned (no_groups May less job asks) ps p w act on e is;
+  pub build : JoinsSo → VotesSo → (act.node.stage ≡ Failed → HasLoss l act.node.epoch) → AsksAt act.node.stage act.node.walk → RepairLosses job l (noted act.items) → Caused job ps (does (job_setup job) p act w)
+  build joins votes failed asked losses = record {
+    legally = acts_legally job rules planned asks ps p w act on e is;
     voted = subst (λ (x : Ledger). HaveVoted x later.polls) (sym ledger_now) (λ x j q flag at. elim (votes x j q flag at) [
       | inl old ↦ (let v = some_of (vote_of (is.polls x j) q) (caused.voted x j q flag old) in ap is_some (grown.vote x j q v.0 v.1))
       | inr now ↦ now
     ]);
-    causes = subst (Causes May job (does s p act w)) (sym ledger_now) (record {
+    causes = subst (Causes job (does s p act w)) (sym ledger_now) (record {
       begun = λ x q v at. elim (joins x q v at) [ inl old ↦ still_begun l m g x (causes.begun x q v old) | inr new ↦ still_begun l m g x new.0 ];
       kinds = λ x q v pos at place. elim (joins x q v at) [
         | inl old ↦ caused_grows job l m g x v (causes.kinds x q v pos old (back x q (causes.begun x q v old) place))
@@ -181,9 +164,9 @@ module _ (May : Wanted → Type 0) (less : (v : Wanted) → May v → IsUnshifte
       ];
       failures = λ q. each_node s p act w (λ y node. w.killed y ≡ false → node.stage ≡ Failed → HasLoss m node.epoch) (λ alive at. loss_grows l m g act.node.epoch (failed at))
           (λ y ne alive at. loss_grows l m g (w.node y).epoch (causes.failures y alive at)) q;
-      sums = λ q. each_node s p act w (λ y node. w.killed y ≡ false → AsksAt May node.stage node.walk) (λ alive. sums) (λ y ne alive. causes.sums y alive) q;
+      asks = λ q. each_node s p act w (λ y node. w.killed y ≡ false → AsksAt node.stage node.walk) (λ alive. asked) (λ y ne alive. causes.asks y alive) q;
     });
-    said = acts_said job rules planned (no_groups May less job asks) ps p w act on e is caused.said;
+    said = acts_said job rules planned asks ps p w act on e is caused.said;
     losses = subst (RepairLosses job (first_ledger job)) (sym more) (losses_more job (first_ledger job) (noted w.items) (noted act.items) caused.losses losses);
   }
     where
@@ -191,7 +174,7 @@ module _ (May : Wanted → Type 0) (less : (v : Wanted) → May v → IsUnshifte
       g = o.adds.grows
 
       grown : PollsGrow is.polls later.polls
-      grown = acts_polls job rules planned (no_groups May less job asks) ps p w act on e is
+      grown = acts_polls job rules planned asks ps p w act on e is
 
       back : (x q : ℕ) → is_some (l.chapters x) ≡ true → has_place (comm_in m x) q ≡ true → has_place (comm_in l x) q ≡ true
       back x q begun place = ap (λ (seats : List Seat). has_place seats q) (sym (same_comm l m g x begun)) ∙ place

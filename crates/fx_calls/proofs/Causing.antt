@@ -34,14 +34,15 @@ use Rattle.fx_calm.proofs.Standing.{noted}
 use Rattle.fx_legal.specs.Ledger.{Ledger, comm_in, comm_of}
 use Rattle.fx_legal.specs.Legal.{written_all, ledger_of}
 use Rattle.fx_losses.specs.Losses.{HasLoss, RepairLosses}
+use Rattle.fx_losses.specs.Eras.{era_of}
 use Rattle.fx_losses.proofs.Actions.{no_vote_here}
 use Rattle.fx_losses.proofs.Plays.{polled}
 use Rattle.fx_losses.proofs.Readings.{left_joined}
 use Rattle.fx_losses.proofs.Shows.{phase_of, is_begin, is_later, is_placed, up_parts}
 use Rattle.fx_losses.proofs.Tests.{first_of, second_of}
 use Rattle.fx_losses.proofs.Voted.{loss_owed, no_losses, inits_no_repairs}
-use Rattle.fx_calls.specs.Bodies.{IsOfSums, IsUnshifted, OnlyAsks}
-use Rattle.fx_calls.proofs.Bodies.{sums_of_no_group, unshifted_of_no_group}
+use Rattle.fx_calls.specs.Bodies.{IsOfNoGroup, OnlyAsks, AsksNoGroups}
+use Rattle.fx_calls.proofs.Calling.{gathers_parts}
 use Rattle.fx_calls.proofs.Agrees as agrees
 use Rattle.fx_calls.proofs.Gathers as gathers
 use Rattle.fx_calls.proofs.Calling.{has_cause, none_refused}
@@ -49,47 +50,20 @@ use Rattle.fx_calls.proofs.Closings.{lossy}
 use Rattle.fx_calls.proofs.Delivered.{ordered_front, has_part}
 use Rattle.fx_calls.proofs.Legally.{Legally, acts_votes}
 use Rattle.fx_calls.proofs.Linked.{own_chapter}
-use Rattle.fx_calls.proofs.Missing.{part_readable, part_before, all_came, sums_due, sums_parts, no_part}
+use Rattle.fx_calls.proofs.Missing.{part_readable, part_before, all_came, part_is_due, parts_alike, no_part}
 use Rattle.fx_calls.proofs.Hearings.{Polls}
 use Rattle.fx_calls.proofs.Owed.{Facts, joined_same, entered_same, inits_open}
+use Rattle.fx_calls.proofs.Places.{era_apart, procs_distinct}
 use Rattle.fx_calls.proofs.Plans.{MeetsIt, HavePlans, some_of, entered_alike}
 use Rattle.fx_calls.proofs.Stepped.{Keeping, Inside, AtPlan, CoreFits, meets_next}
-use Rattle.fx_calls.proofs.Causes.{Finished, IsCaused, BodyAsks, AsksAt, Causes, CausedOf, no_groups, asked_at, finished_at, later, build, none_join, none_enter}
+use Rattle.fx_calls.proofs.Causes.{Finished, IsCaused, AsksAt, Causes, Caused, asked_at, finished_at, later, build, none_join, none_enter}
 
 abbrev is_failed : Stage → Bool
 is_failed Failed = true
 is_failed other = false
 
--- no barrier and no reduction is a ballot
-pub no_ballot : (v : Wanted) (phase : Phase) → IsOfSums v → CoreFits v (Balloting phase) → ⊥
-no_ballot wanted.Barrier phase is fits = fits
-no_ballot (wanted.Reduce op own) phase is fits = fits
-no_ballot (wanted.Shift by elements) phase is fits = is
-no_ballot (wanted.Agree flag) phase is fits = is
-no_ballot (wanted.Group g start depth) phase is fits = is
-no_ballot (wanted.Attach g m) phase is fits = is
-no_ballot (wanted.Store g m piece) phase is fits = is
-no_ballot (wanted.Commit g) phase is fits = is
-no_ballot (wanted.Close g) phase is fits = is
-no_ballot (wanted.Restore g m stamp) phase is fits = is
-no_ballot (wanted.Delete g stamp) phase is fits = is
-
--- and what gathers parts is one of them, where it is no shift
-gathers_sums : (v : Wanted) → IsUnshifted v → CoreFits v Gathering → IsOfSums v
-gathers_sums wanted.Barrier is fits = tt
-gathers_sums (wanted.Reduce op own) is fits = tt
-gathers_sums (wanted.Agree flag) is fits = absurd fits
-gathers_sums (wanted.Shift by elements) is fits = absurd is
-gathers_sums (wanted.Group g start depth) is fits = absurd is
-gathers_sums (wanted.Attach g m) is fits = absurd is
-gathers_sums (wanted.Store g m piece) is fits = absurd is
-gathers_sums (wanted.Commit g) is fits = absurd is
-gathers_sums (wanted.Close g) is fits = absurd is
-gathers_sums (wanted.Restore g m stamp) is fits = absurd is
-gathers_sums (wanted.Delete g stamp) is fits = absurd is
-
 -- what the plan has as an agreement is one
-agrees_so : (v : Wanted) → common_of v ≡ Agree → (flag : ℤ) × (v ≡ wanted.Agree flag)
+pub agrees_so : (v : Wanted) → common_of v ≡ Agree → (flag : ℤ) × (v ≡ wanted.Agree flag)
 agrees_so (wanted.Agree flag) e = (flag, refl)
 agrees_so wanted.Barrier e = absurd (let bad : Barrier ≡ Agree = e in cc)
 agrees_so (wanted.Reduce op own) e = absurd (let bad : Reduce op ≡ Agree = e in cc)
@@ -104,8 +78,8 @@ agrees_so (wanted.Delete g stamp) e = absurd (let bad : Delete g stamp ≡ Agree
 
 -- ---- why a step is caused
 
-module _ (May : Wanted → Type 0) (less : (v : Wanted) → May v → IsUnshifted v) (job : Job) (rules : KeepsByParts job) (planned : HavePlans job) (asks : BodyAsks May job) (ps : List ℕ) (p : ℕ) (w : World)
-    (on : up (job_setup job) w p ≡ true) (caused : CausedOf May job ps w) where
+module _ (job : Job) (rules : KeepsByParts job) (planned : HavePlans job) (asks : AsksNoGroups job) (ps : List ℕ) (p : ℕ) (w : World)
+    (on : up (job_setup job) w p ≡ true) (caused : Caused job ps w) where
   abbrev s : Setup
   s = job_setup job
 
@@ -121,28 +95,31 @@ module _ (May : Wanted → Type 0) (less : (v : Wanted) → May v → IsUnshifte
   abbrev l : Ledger
   l = ledger_of job (noted w.items)
 
-  abbrev causes : Causes May job w l
+  abbrev causes : Causes job w l
   causes = caused.causes
 
   facts : Facts job w is.worlds is.fate l is.polls p
-  facts = record { rules = rules; planned = planned; asks = no_groups May less job asks; here = on; shows = is.shows; truthful = is.truthful; linked = is.linked; stepped = is.stepped; spoken = is.spoken; polled = is.polled; delivered = is.delivered }
+  facts = record { rules = rules; planned = planned; asks = asks; here = on; shows = is.shows; truthful = is.truthful; linked = is.linked; stepped = is.stepped; spoken = is.spoken; polled = is.polled; delivered = is.delivered }
 
   alive : w.killed p ≡ false
   alive = (up_parts (job_setup job) w p on).1
 
   -- ---- calls that fail
 
+  comm_here : comm_in l d ≡ n.comm
+  comm_here = let y = own_chapter job w is.worlds is.fate l p is.shows is.linked alive in ap comm_of y.at ∙ sym y.like.comm
+
   placed_in : (q : ℕ) → has_place n.comm q ≡ true → has_place (comm_in l d) q ≡ true
-  placed_in q place = let y = own_chapter job w is.worlds is.fate l p is.shows is.linked alive in ap (λ (c : List Seat). has_place c q) (ap comm_of y.at ∙ sym y.like.comm) ∙ place
+  placed_in q place = ap (λ (c : List Seat). has_place c q) comm_here ∙ place
 
-  still_in : (core : Core) (v : Wanted) (rest : Reply → Walk) → IsIn n core v rest → OnlyAsks May n.walk
-  still_in core v rest i = subst (λ (a : Stage). AsksAt May a n.walk) i.stage (causes.sums p alive)
+  still_in : (core : Core) (v : Wanted) (rest : Reply → Walk) → IsIn n core v rest → OnlyAsks IsOfNoGroup n.walk
+  still_in core v rest i = subst (λ (a : Stage). AsksAt a n.walk) i.stage (causes.asks p alive)
 
-  asks_in : (core : Core) (v : Wanted) (rest : Reply → Walk) → IsIn n core v rest → May v × ((reply : Reply) → OnlyAsks May (rest reply))
-  asks_in core v rest i = subst (OnlyAsks May) i.walk (still_in core v rest i)
+  asks_in : (core : Core) (v : Wanted) (rest : Reply → Walk) → IsIn n core v rest → IsOfNoGroup v × ((reply : Reply) → OnlyAsks IsOfNoGroup (rest reply))
+  asks_in core v rest i = subst (OnlyAsks IsOfNoGroup) i.walk (still_in core v rest i)
 
-  less_in : (core : Core) (v : Wanted) (rest : Reply → Walk) → IsIn n core v rest → IsUnshifted v
-  less_in core v rest i = less v (asks_in core v rest i).0
+  in_no_group : (core : Core) (v : Wanted) (rest : Reply → Walk) → IsIn n core v rest → IsOfNoGroup v
+  in_no_group core v rest i = (asks_in core v rest i).0
 
   inside : (core : Core) (v : Wanted) (rest : Reply → Walk) → IsIn n core v rest → Inside job l p n core
   inside core v rest i = subst (AtPlan job l p n) i.stage (is.stepped.nodes p alive).at
@@ -156,12 +133,12 @@ module _ (May : Wanted → Type 0) (less : (v : Wanted) → May v → IsUnshifte
   came : (v : Wanted) (rest : Reply → Walk) (x : ℕ) → IsIn n Gathering v rest → gathering_error n v ≡ Some (ByLeaving x) → has_left n x ≡ true → has_place (comm_in l d) x ≡ true → x ≢ p → Finished job l d → ⊥
   came v rest x i e left place ne f =
       let b = inside Gathering v rest i in
-      let sums = gathers_sums v (less_in Gathering v rest i) (b.fits i.place v i.state rest i.walk) in
-      let meets : MeetsIt b.keeping.plan (common_of v) = meets_next i.place v i.state rest b.keeping.plan (sums_of_no_group v sums) (subst (λ (o : Walk). Keeps o b.keeping.plan no_latest) i.walk b.keeping.keeps) in
+      let parts = gathers_parts v (b.fits i.place v i.state rest i.walk) in
+      let meets : MeetsIt b.keeping.plan (common_of v) = meets_next i.place v i.state rest b.keeping.plan (in_no_group Gathering v rest i) (subst (λ (o : Walk). Keeps o b.keeping.plan no_latest) i.walk b.keeping.keeps) in
       let asked = some_of (l.entered d (suc b.before) x) (asked_at (l.entered d (suc b.before)) (comm_in l d) x (all_came job l d f.calls b.before f.counters b.keeping.plan (common_of v) f.at b.keeping.at meets) place) in
       let own : l.entered d (suc b.before) p ≡ Some v = subst (λ (o : ℕ). l.entered d o p ≡ Some v) b.calls (b.entered i.place v i.state rest i.walk) in
       let there : has_part d (suc b.before) (n.texts x) ≡ true =
-      part_before l x p d (suc b.before) asked.0 (λ o. (x == n.me) || is_join (suc d) o) [] (n.texts x) asked.1 (sums_parts v asked.0 sums (alike b.before own asked.0 asked.1))
+      part_before l x p d (suc b.before) asked.0 (λ o. (x == n.me) || is_join (suc d) o) [] (n.texts x) asked.1 (parts_alike v asked.0 parts (alike b.before own asked.0 asked.1))
       (placed_in p ((is.shows.sane p alive).placed (ap is_placed i.stage))) (ordered_front l x p [] (n.texts x) (w.link x p) (is.delivered.ordered x p on ne))
       (second_of (has n.present x) (is_some (reading.vote_of (next_ballot n) n x)) left) in
       let none = no_part n v x e in
@@ -169,7 +146,8 @@ module _ (May : Wanted → Type 0) (less : (v : Wanted) → May v → IsUnshifte
       (subst (λ (y : ℕ). is_some (first_read (λ t. only (λ values. length values == due_from v (size n) (my_place n) none.place) (part_in n.epoch n.calls t)) (n.texts y)) ≡ true) (sym none.at)
       (subst (λ (j : ℕ). is_some (first_read (λ t. only (λ values. length values == due_from v (size n) (my_place n) none.place) (part_in n.epoch j t)) (n.texts x)) ≡ true) (sym b.calls)
       (part_readable l d (suc b.before) x p (λ values. length values == due_from v (size n) (my_place n) none.place) (n.texts x) (is.spoken.texts p x)
-      (λ values y. ap (λ (o : List ℤ). length o == due_from v (size n) (my_place n) none.place) y.are ∙ sums_due v y.asked sums (alike b.before own y.asked y.at) (comm_in l d) x p (size n) (my_place n) none.place) there)))
+      (part_is_due job l d (suc b.before) n p x none.place v parts comm_here (procs_distinct n.comm (era_apart s is.fate d (era_of n) (is.shows.here p alive))) (is.shows.sane p alive).me
+      ((is.shows.sane p alive).placed (ap is_placed i.stage)) none.below none.at (is.stepped.entries d (suc b.before)) own) there)))
     where
       alike : (j : ℕ) → l.entered d (suc j) p ≡ Some v → (u : Wanted) → l.entered d (suc j) x ≡ Some u → common_of u ≡ common_of v
       alike j own u at = entered_alike job l d (suc j) u v (is.stepped.entries d (suc j) x u at) (is.stepped.entries d (suc j) p v own)
@@ -261,16 +239,16 @@ module _ (May : Wanted → Type 0) (less : (v : Wanted) → May v → IsUnshifte
   -- ---- all deeds
 
   calmly : (act : Act) → next (job_setup job) (w.node p) ≡ Some act → (written_all job l (noted act.items)).joined ≡ l.joined → (written_all job l (noted act.items)).entered ≡ l.entered → (act.node.stage ≡ Failed → HasLoss l act.node.epoch)
-      → AsksAt May act.node.stage act.node.walk → RepairLosses job l (noted act.items) → CausedOf May job ps (does (job_setup job) p act w)
-  calmly act e joins enters failed sums losses =
-      (build May less job rules planned asks ps p w act on e caused) ((none_join May less job rules planned asks ps p w act on e caused) joins) ((none_enter May less job rules planned asks ps p w act on e caused) enters) failed sums losses
+      → AsksAt act.node.stage act.node.walk → RepairLosses job l (noted act.items) → Caused job ps (does (job_setup job) p act w)
+  calmly act e joins enters failed asked losses =
+      (build job rules planned asks ps p w act on e caused) ((none_join job rules planned asks ps p w act on e caused) joins) ((none_enter job rules planned asks ps p w act on e caused) enters) failed asked losses
 
   entering : (act : Act) (e : next (job_setup job) (w.node p) ≡ Some act) → (written_all job l (noted act.items)).joined ≡ l.joined
       → ((x j q : ℕ) (flag : ℤ) → (written_all job l (noted act.items)).entered x j q ≡ Some (wanted.Agree flag)
-      → (l.entered x j q ≡ Some (wanted.Agree flag)) ⊎ (is_some (vote_of ((later May less job rules planned asks ps p w act on e caused).polls x j) q) ≡ true))
-      → (act.node.stage ≡ Failed → HasLoss l act.node.epoch) → AsksAt May act.node.stage act.node.walk → RepairLosses job l (noted act.items) → CausedOf May job ps (does (job_setup job) p act w)
-  entering act e joins votes failed sums losses =
-      (build May less job rules planned asks ps p w act on e caused) ((none_join May less job rules planned asks ps p w act on e caused) joins) votes failed sums losses
+      → (l.entered x j q ≡ Some (wanted.Agree flag)) ⊎ (is_some (vote_of ((later job rules planned asks ps p w act on e caused).polls x j) q) ≡ true))
+      → (act.node.stage ≡ Failed → HasLoss l act.node.epoch) → AsksAt act.node.stage act.node.walk → RepairLosses job l (noted act.items) → Caused job ps (does (job_setup job) p act w)
+  entering act e joins votes failed asked losses =
+      (build job rules planned asks ps p w act on e caused) ((none_join job rules planned asks ps p w act on e caused) joins) votes failed asked losses
 
   -- who enters a call has voted there, where it is an agreement
   enters_so : (polls : Polls) (v : Wanted) (rest : Reply → Walk) (a : AsksFor n v rest) (core : Core) (fits : CoreFits v core) → ((flag : ℤ) → wanted.Agree flag ≡ v → is_some (vote_of (polls d (suc n.calls)) p) ≡ true) → (x j q : ℕ) (flag : ℤ)
@@ -287,27 +265,27 @@ module _ (May : Wanted → Type 0) (less : (v : Wanted) → May v → IsUnshifte
   no_failure : (m : Node) → is_failed m.stage ≡ false → m.stage ≡ Failed → HasLoss l m.epoch
   no_failure m calm at = absurd (let bad : false ≡ true = sym calm ∙ ap is_failed at in cc)
 
-  no_wait : (core : Core) (v : Wanted) (wait : Wait) → WaitsIn s n core v wait → IsUnshifted v → ⊥
+  no_wait : (core : Core) (v : Wanted) (wait : Wait) → WaitsIn s n core v wait → IsOfNoGroup v → ⊥
   no_wait core v wait (ForShares g) is = is
   no_wait core v wait (ForTells g start depth) is = is
   no_wait core v wait (ForHelps g start depth j all known none) is = is
   no_wait core v wait (ForGives g start depth j known) is = is
 
-  still_asks : (v : Wanted) (rest : Reply → Walk) → AsksFor n v rest → OnlyAsks May n.walk
-  still_asks v rest a = subst (λ (x : Stage). AsksAt May x n.walk) a.stage (causes.sums p alive)
+  still_asks : (v : Wanted) (rest : Reply → Walk) → AsksFor n v rest → OnlyAsks IsOfNoGroup n.walk
+  still_asks v rest a = subst (λ (x : Stage). AsksAt x n.walk) a.stage (causes.asks p alive)
 
-  less_asked : (v : Wanted) (rest : Reply → Walk) → AsksFor n v rest → IsUnshifted v
-  less_asked v rest a = less v (subst (OnlyAsks May) a.walk (still_asks v rest a)).0
+  asks_no_group : (v : Wanted) (rest : Reply → Walk) → AsksFor n v rest → IsOfNoGroup v
+  asks_no_group v rest a = (subst (OnlyAsks IsOfNoGroup) a.walk (still_asks v rest a)).0
 
-  walks_on : (walk : Walk) → n.stage ≡ Walking → n.walk ≡ walk → OnlyAsks May walk
-  walks_on walk at same = subst (OnlyAsks May) same (subst (λ (x : Stage). AsksAt May x n.walk) at (causes.sums p alive))
+  walks_on : (walk : Walk) → n.stage ≡ Walking → n.walk ≡ walk → OnlyAsks IsOfNoGroup walk
+  walks_on walk at same = subst (OnlyAsks IsOfNoGroup) same (subst (λ (x : Stage). AsksAt x n.walk) at (causes.asks p alive))
 
   fits_ballot : (phase : Phase) (v : Wanted) (rest : Reply → Walk) → IsIn n (Balloting phase) v rest → CoreFits v (Balloting phase)
   fits_ballot phase v rest i = (inside (Balloting phase) v rest i).fits i.place v i.state rest i.walk
 
-  pub caused_by : (act : Act) → next (job_setup job) (w.node p) ≡ Some act → Deed (job_setup job) (w.node p) act → CausedOf May job ps (does (job_setup job) p act w)
+  pub caused_by : (act : Act) → next (job_setup job) (w.node p) ≡ Some act → Deed (job_setup job) (w.node p) act → Caused job ps (does (job_setup job) p act w)
   caused_by act e (Joins kind why may) =
-      (build May less job rules planned asks ps p w act on e caused) (joined_so kind (reason_cause kind why)) ((none_enter May less job rules planned asks ps p w act on e caused) refl) (no_failure (joined kind n).node refl) tt (tt, tt)
+      (build job rules planned asks ps p w act on e caused) (joined_so kind (reason_cause kind why)) ((none_enter job rules planned asks ps p w act on e caused) refl) (no_failure (joined kind n).node refl) tt (tt, tt)
   caused_by act e (Moves b at phase (OfEpoch old stage) t) = calmly act e refl refl (no_failure act.node refl) tt tt
   caused_by act e (Moves b at phase (OfCall v rest old i) t) = calmly act e refl refl (no_failure act.node refl) (still_in (Balloting old) v rest i) tt
   caused_by act e (Speaks b at phase slots (OfEpoch old stage) t) = calmly act e refl refl (no_failure act.node refl) tt tt
@@ -322,40 +300,42 @@ module _ (May : Wanted → Type 0) (less : (v : Wanted) → May v → IsUnshifte
   caused_by act e (Inits at place) =
       calmly act e (joined_same job l (inits s n).items (inits_open s n)) (entered_same job l (inits s n).items (inits_open s n)) (no_failure act.node refl)
       (asks (view_at_init n.role (my_place n) (size n)) (body_start (facts_of job) n.role (my_place n) (size n) (state_of n))) (no_losses job l (inits s n).items (inits_no_repairs s n))
-  caused_by act e (PassesOn rest at t) = calmly act e refl refl (no_failure act.node (ap is_failed at)) (subst (λ (x : Stage). AsksAt May x rest) (sym at) (walks_on (Passes rest) at t)) tt
-  caused_by act e (PrintsOut printed rest at t) = calmly act e refl refl (no_failure act.node (ap is_failed at)) (subst (λ (x : Stage). AsksAt May x rest) (sym at) (walks_on (Prints printed rest) at t).1) (tt, tt)
-  caused_by act e (IsRefused v rest r a t) = absurd (none_refused s n v r (unshifted_of_no_group v (less_asked v rest a)) t)
-  caused_by act e (Attaches g m rest a may) = absurd (less_asked (wanted.Attach g m) rest a)
-  caused_by act e (Stores g m piece rest a may) = absurd (less_asked (wanted.Store g m piece) rest a)
-  caused_by act e (Commits g rest a may) = absurd (less_asked (wanted.Commit g) rest a)
-  caused_by act e (Restores g m stamp rest a may) = absurd (less_asked (wanted.Restore g m stamp) rest a)
+  caused_by act e (PassesOn rest at t) = calmly act e refl refl (no_failure act.node (ap is_failed at)) (subst (λ (x : Stage). AsksAt x rest) (sym at) (walks_on (Passes rest) at t)) tt
+  caused_by act e (PrintsOut printed rest at t) = calmly act e refl refl (no_failure act.node (ap is_failed at)) (subst (λ (x : Stage). AsksAt x rest) (sym at) (walks_on (Prints printed rest) at t).1) (tt, tt)
+  caused_by act e (IsRefused v rest r a t) = absurd (none_refused s n v r (asks_no_group v rest a) t)
+  caused_by act e (Attaches g m rest a may) = absurd (asks_no_group (wanted.Attach g m) rest a)
+  caused_by act e (Stores g m piece rest a may) = absurd (asks_no_group (wanted.Store g m piece) rest a)
+  caused_by act e (Commits g rest a may) = absurd (asks_no_group (wanted.Commit g) rest a)
+  caused_by act e (Restores g m stamp rest a may) = absurd (asks_no_group (wanted.Restore g m stamp) rest a)
   caused_by act e (EntersBarrier rest a) =
-      entering act e refl (enters_so (later May less job rules planned asks ps p w act on e caused).polls wanted.Barrier rest a Gathering tt (λ flag same. absurd (let bad : Agree ≡ Barrier = ap common_of same in cc)))
+      entering act e refl (enters_so (later job rules planned asks ps p w act on e caused).polls wanted.Barrier rest a Gathering tt (λ flag same. absurd (let bad : Agree ≡ Barrier = ap common_of same in cc)))
       (no_failure act.node refl) (still_asks wanted.Barrier rest a) (tt, tt)
   caused_by act e (EntersReduction op value rest a) =
-      entering act e refl (enters_so (later May less job rules planned asks ps p w act on e caused).polls (wanted.Reduce op value) rest a Gathering tt (λ flag same. absurd (let bad : Agree ≡ Reduce op = ap common_of same in cc)))
+      entering act e refl (enters_so (later job rules planned asks ps p w act on e caused).polls (wanted.Reduce op value) rest a Gathering tt (λ flag same. absurd (let bad : Agree ≡ Reduce op = ap common_of same in cc)))
       (no_failure act.node refl) (still_asks (wanted.Reduce op value) rest a) (tt, tt)
-  caused_by act e (EntersShift by elements rest a) = absurd (less_asked (wanted.Shift by elements) rest a)
+  caused_by act e (EntersShift by elements rest a) =
+      entering act e refl (enters_so (later job rules planned asks ps p w act on e caused).polls (wanted.Shift by elements) rest a Gathering tt (λ flag same. absurd (let bad : Agree ≡ Shift by = ap common_of same in cc)))
+      (no_failure act.node refl) (still_asks (wanted.Shift by elements) rest a) (tt, tt)
   caused_by act e (EntersAgreement flag rest a) =
       entering act e refl
-      (enters_so (later May less job rules planned asks ps p w act on e caused).polls (wanted.Agree flag) rest a (Balloting Voting) tt (λ o same. acts_votes job rules planned (no_groups May less job asks) ps p w act on e is refl Voting refl))
+      (enters_so (later job rules planned asks ps p w act on e caused).polls (wanted.Agree flag) rest a (Balloting Voting) tt (λ o same. acts_votes job rules planned asks ps p w act on e is refl Voting refl))
       (no_failure act.node refl) (still_asks (wanted.Agree flag) rest a) (tt, tt)
-  caused_by act e (EntersDeletion g stamp rest a may) = absurd (less_asked (wanted.Delete g stamp) rest a)
-  caused_by act e (EntersClosing g rest a may) = absurd (less_asked (wanted.Close g) rest a)
-  caused_by act e (EntersCreation g start depth rest a may) = absurd (less_asked (wanted.Group g start depth) rest a)
+  caused_by act e (EntersDeletion g stamp rest a may) = absurd (asks_no_group (wanted.Delete g stamp) rest a)
+  caused_by act e (EntersClosing g rest a may) = absurd (asks_no_group (wanted.Close g) rest a)
+  caused_by act e (EntersCreation g start depth rest a may) = absurd (asks_no_group (wanted.Group g start depth) rest a)
   caused_by act e (PassesBarrier rest i all) = calmly act e refl refl (no_failure act.node refl) ((asks_in Gathering wanted.Barrier rest i).1 _) (tt, tt)
   caused_by act e (Reduces op value rest i all) = calmly act e refl refl (no_failure act.node refl) ((asks_in Gathering (wanted.Reduce op value) rest i).1 _) (tt, tt)
-  caused_by act e (Shifts by elements rest i all) = absurd (less_in Gathering (wanted.Shift by elements) rest i)
+  caused_by act e (Shifts by elements rest i all) = calmly act e refl refl (no_failure act.node refl) ((asks_in Gathering (wanted.Shift by elements) rest i).1 _) (tt, tt)
   caused_by act e (GathersNoMore v rest (ByLoss x) kind i some t) = calmly act e refl refl (λ at. gathering_loss v rest (ByLoss x) i t) tt (tt, tt)
   caused_by act e (GathersNoMore v rest (ByLeaving x) kind i some t) = calmly act e refl refl (λ at. gathering_loss v rest (ByLeaving x) i t) tt (tt, tt)
-  caused_by act e (VotesNo core v rest wait vote i at un) = absurd (no_wait core v wait at (less_in core v rest i))
-  caused_by act e (VotesYes g rest i all) = absurd (less_in Sharing (wanted.Close g) rest i)
-  caused_by act e (VotesFresh g start depth rest i all none) = absurd (less_in Telling (wanted.Group g start depth) rest i)
-  caused_by act e (HelpsAndGives g start depth rest j i all known may) = absurd (less_in Telling (wanted.Group g start depth) rest i)
-  caused_by act e (VotesFinding g start depth rest j i known all) = absurd (less_in Giving (wanted.Group g start depth) rest i)
+  caused_by act e (VotesNo core v rest wait vote i at un) = absurd (no_wait core v wait at (in_no_group core v rest i))
+  caused_by act e (VotesYes g rest i all) = absurd (in_no_group Sharing (wanted.Close g) rest i)
+  caused_by act e (VotesFresh g start depth rest i all none) = absurd (in_no_group Telling (wanted.Group g start depth) rest i)
+  caused_by act e (HelpsAndGives g start depth rest j i all known may) = absurd (in_no_group Telling (wanted.Group g start depth) rest i)
+  caused_by act e (VotesFinding g start depth rest j i known all) = absurd (in_no_group Giving (wanted.Group g start depth) rest i)
   caused_by act e (ReturnsError v rest phase slots (ByLoss x) i decided t) = calmly act e refl refl (λ at. ballot_loss v rest phase slots (ByLoss x) i (fits_ballot phase v rest i) decided t) tt (tt, tt)
   caused_by act e (ReturnsError v rest phase slots (ByLeaving x) i decided t) = calmly act e refl refl (λ at. ballot_loss v rest phase slots (ByLeaving x) i (fits_ballot phase v rest i) decided t) tt (tt, tt)
   caused_by act e (ReturnsBits flag rest slots i) = calmly act e refl refl (no_failure act.node refl) ((asks_in (Balloting i.phase) (wanted.Agree flag) rest i.within).1 _) (tt, tt)
-  caused_by act e (Closes g rest slots i) = absurd (less_in (Balloting i.phase) (wanted.Close g) rest i.within)
-  caused_by act e (Creates g start depth rest slots i) = absurd (less_in (Balloting i.phase) (wanted.Group g start depth) rest i.within)
-  caused_by act e (Deletes g stamp rest slots i) = absurd (less_in (Balloting i.phase) (wanted.Delete g stamp) rest i.within)
+  caused_by act e (Closes g rest slots i) = absurd (in_no_group (Balloting i.phase) (wanted.Close g) rest i.within)
+  caused_by act e (Creates g start depth rest slots i) = absurd (in_no_group (Balloting i.phase) (wanted.Group g start depth) rest i.within)
+  caused_by act e (Deletes g stamp rest slots i) = absurd (in_no_group (Balloting i.phase) (wanted.Delete g stamp) rest i.within)

@@ -1,8 +1,7 @@
--- Each process ends: the tail of the run of an accepted job whose body asks nothing but barriers and reductions is long enough.
+-- Each process ends: the tail of the run of an accepted job whose body asks nothing but barriers, reductions and agreements is long enough.
 use Rattle.std.proofs.Common.{◌≡◌, ◌⊎◌, ◌<◌, ◌≤◌, inl, inr, ℕ, zero, suc, ◌+◌, ◌*◌, Bool, true, false, [], arith, refl, sym, ap, subst, ◌∙◌}
 use Rattle.std.proofs.lemmas.Bool.{cases_lt}
 use Rattle.std.proofs.lemmas.Nat.{mul-le}
-use Rattle.fx_check.specs.Acceptance.{IsAccepted}
 use Rattle.fx_check.specs.Work.{work_of, bound_with, bound_of}
 use Rattle.fx_script.specs.declared.job.Job.{Job}
 use Rattle.fx_machine.specs.Setup.{Setup}
@@ -18,12 +17,11 @@ use Rattle.fx_losses.proofs.Ends.{until_done}
 use Rattle.fx_losses.proofs.Moments.{always_along}
 use Rattle.fx_losses.proofs.Sizes.{accepted_numbers}
 use Rattle.fx_losses.proofs.Texts.{put_same, put_other}
-use Rattle.fx_calls.proofs.Bodies.{sums_ask_no_groups}
 use Rattle.fx_calls.proofs.Fair.{round_further, round_far}
 use Rattle.fx_calls.proofs.Legality.{shows_all_ends}
 use Rattle.fx_calls.proofs.Over.{still_is_over}
-use Rattle.fx_calls.proofs.Rests.{top_is, nowhere, first_far, behind_all}
-use Rattle.fx_calls.proofs.Rising.{Summing, one_more, top, Good, Far, epoch_few, comes_few, far_kept}
+use Rattle.fx_calls.proofs.Rests.{top_is, room, nowhere, first_far, behind_all}
+use Rattle.fx_calls.proofs.Rising.{Asking, one_more, top, Good, Far, epoch_few, comes_few, far_kept}
 
 -- ---- sums
 
@@ -71,13 +69,12 @@ sum_none (suc n) = let rest = sum_none n in omega (arith, rest)
 
 -- ---- the bound
 
-bound_enough : (procs work : ℕ) → 1 ≤ procs → procs * ((2 * procs + 2) * (2 * work + procs + 5)) < bound_with procs work
+bound_enough : (procs work : ℕ) → 1 ≤ procs → procs * ((2 * procs + 2) * (work * (procs + 4) + procs + 5)) < bound_with procs work
 bound_enough procs work some =
     let some_turns : 1 * 1 ≤ procs * (2 * procs + 2) = mul-le 1 1 procs (2 * procs + 2) some (omega arith) in
-    let wide : (work + 2) * (procs + 8) ≡ work * procs + 8 * work + 2 * procs + 16 = grind arith in
-    let less : procs * (2 * procs + 2) * (2 * work + procs + 6) ≤ procs * (2 * procs + 2) * ((work + 2) * (procs + 8)) =
-    mul-le (procs * (2 * procs + 2)) (2 * work + procs + 6) (procs * (2 * procs + 2)) ((work + 2) * (procs + 8)) (omega arith) (omega (arith, wide)) in
-    let one_less : procs * (2 * procs + 2) * (2 * work + procs + 6) ≡ procs * ((2 * procs + 2) * (2 * work + procs + 5)) + procs * (2 * procs + 2) = grind arith in
+    let less : procs * (2 * procs + 2) * (work * (procs + 4) + procs + 6) ≤ procs * (2 * procs + 2) * ((work + 2) * (procs + 8)) =
+    mul-le (procs * (2 * procs + 2)) (work * (procs + 4) + procs + 6) (procs * (2 * procs + 2)) ((work + 2) * (procs + 8)) (omega arith) (room procs work) in
+    let one_less : procs * (2 * procs + 2) * (work * (procs + 4) + procs + 6) ≡ procs * ((2 * procs + 2) * (work * (procs + 4) + procs + 5)) + procs * (2 * procs + 2) = grind arith in
     let right : procs * (2 * procs + 2) * (work + 2) * (procs + 8) ≡ procs * (2 * procs + 2) * ((work + 2) * (procs + 8)) = grind arith in
     omega (arith, some_turns, less, one_less, right)
 
@@ -93,12 +90,12 @@ predecessor (suc n) some = (n, refl)
 
 -- ---- the tail
 
-module _ (job : Job) (accepted : IsAccepted job) (sums : Summing job) where
+module _ (job : Job) (asking : Asking job) where
   abbrev s : Setup
   s = job_setup job
 
   over_where_still : (w : World) → Good job [] w → IsStill s w → all_over s w ≡ true
-  over_where_still w is still = still_is_over job accepted [] w is.caused (early (accepted_numbers job accepted).1) still
+  over_where_still w is still = still_is_over job asking [] w is.caused (early (accepted_numbers job asking.accepted).1) still
     where
       early : (job_setup job).procs ≤ 32 → (q : ℕ) → w.killed q ≡ false → (w.node q).epoch < 4294967295
       early low q lives = let few = epoch_few job [] w is q lives in omega (arith, few, low)
@@ -110,7 +107,7 @@ module _ (job : Job) (accepted : IsAccepted job) (sums : Summing job) where
   tail_goes_on : (f : ℕ → ℕ) (more bound : ℕ) (w : World) → Far job f [] w → s.procs * top job < suc bound + sum_below s.procs f → Later f more bound (fair_round s (suc more) w)
       → (IsStill s (fair_round s (suc more) w) ⊎ ((q : ℕ) × (q < s.procs) × Far job (one_more q f) [] (fair_round s (suc more) w))) → all_over s (tail s (suc more) bound (fair_round s (suc more) w)) ≡ true
   tail_goes_on f more bound w is enough later (inl still) =
-      let over = over_where_still (fair_round s (suc more) w) (round_far job sums f (suc more) w is).0 still in
+      let over = over_where_still (fair_round s (suc more) w) (round_far job asking f (suc more) w is).0 still in
       ap (all_over s) (until_done (all_over s) (fair_round s (suc more)) bound (fair_round s (suc more) w) over) ∙ over
   tail_goes_on f more bound w is enough later (inr further) = later further.0 further.2 (let risen = sum_more s.procs further.0 f further.1 in omega (arith, risen, enough))
 
@@ -120,19 +117,19 @@ module _ (job : Job) (accepted : IsAccepted job) (sums : Summing job) where
     where
       of : Later f more bound (fair_round s (suc more) w) → (b : Bool) → all_over s w ≡ b → all_over s (elim b as (λ c. World) [ true ↦ w | false ↦ tail s (suc more) bound (fair_round s (suc more) w) ]) ≡ true
       of later true e = e
-      of later false e = tail_goes_on f more bound w is enough later (round_further job sums f more w is)
+      of later false e = tail_goes_on f more bound w is enough later (round_further job asking f more w is)
 
   all_end_within : (more bound : ℕ) → s.procs * top job < bound → all_over s (whole s (suc more) bound (moments_of job)) ≡ true
   all_end_within more bound enough =
-      tail_over nowhere more bound (all_happen s (suc more) (moments_of job) (first_world s)) (behind_all job sums accepted (suc more))
+      tail_over nowhere more bound (all_happen s (suc more) (moments_of job) (first_world s)) (behind_all job asking (suc more))
       (let none = sum_none s.procs in omega (arith, none, enough))
 
   top_within : (bound : ℕ) → bound_of job ≤ bound → s.procs * top job < bound
   top_within bound enough =
       let procs : ℕ = s.procs in
       let work : ℕ = work_of job.body in
-      let numbers = accepted_numbers job accepted in
-      let less : procs * ((2 * procs + 2) * (2 * work + procs + 5)) < bound_of job = bound_enough procs work (some_procs numbers.0) in
+      let numbers = accepted_numbers job asking.accepted in
+      let less : procs * ((2 * procs + 2) * (work * (procs + 4) + procs + 5)) < bound_of job = bound_enough procs work (some_procs numbers.0) in
       subst (λ (o : ℕ). procs * o < bound) (sym (top_is job)) (omega (arith, less, enough))
     where
       some_procs : 1 ≤ ranks_of job → 1 ≤ (job_setup job).procs
@@ -148,9 +145,9 @@ module _ (job : Job) (accepted : IsAccepted job) (sums : Summing job) where
   run_ends = all_end (rest_bound_of job) (some_fuel s.procs (work_of job.body)) (bound_of job) (omega arith)
 
   pub journal_ends : AllHaveEnded job (runs.journal_of job)
-  journal_ends = shows_all_ends job sums.rules sums.planned (sums_ask_no_groups job sums.asks) (kills_processes job accepted) run_ends
+  journal_ends = shows_all_ends job asking.rules asking.planned asking.asks (kills_processes job asking.accepted) run_ends
 
   -- where nothing more can happen in the run, it is over
   pub is_over : (fuel bound : ℕ) → IsStill (job_setup job) (whole (job_setup job) fuel bound (moments_of job)) → all_over (job_setup job) (whole (job_setup job) fuel bound (moments_of job)) ≡ true
   is_over fuel bound still =
-      over_where_still (whole s fuel bound (moments_of job)) (always_along s (Far job nowhere) (far_kept job sums nowhere) (moments_of job) (kills_processes job accepted) (first_far job) fuel bound).0 still
+      over_where_still (whole s fuel bound (moments_of job)) (always_along s (Far job nowhere) (far_kept job asking nowhere) (moments_of job) (kills_processes job asking.accepted) (first_far job) fuel bound).0 still

@@ -15,9 +15,9 @@ use Rattle.fx_losses.proofs.Fair.{Attended, StillAt}
 use Rattle.fx_losses.proofs.Moments.{rest_keeps, turn_keeps, round_keeps, attend_keeps}
 use Rattle.fx_losses.proofs.Shows.{up_parts}
 use Rattle.fx_calls.proofs.Attended.{attended_not, attended_up, still_there, attends_attended}
-use Rattle.fx_calls.proofs.Rising.{Summing, one_more, Far, acts_further, far_kept}
+use Rattle.fx_calls.proofs.Rising.{Asking, one_more, Far, acts_further, far_kept}
 
-module _ (job : Job) (sums : Summing job) where
+module _ (job : Job) (asking : Asking job) where
   abbrev s : Setup
   s = job_setup job
 
@@ -36,7 +36,7 @@ module _ (job : Job) (sums : Summing job) where
     where
       of : (o : Option Act) → next s (w.node q) ≡ o → is_none o ≡ false → up s w q ≡ true → Far job (one_more q f) ps (does_if s q o w)
       of None i some on = absurd (let bad : true ≡ false = some in cc)
-      of (Some act) i some on = acts_further job sums ps q w act on i is.0 f is.1
+      of (Some act) i some on = acts_further job asking ps q w act on i is.0 f is.1
 
   rest_further : (f : ℕ → ℕ) (more q : ℕ) (w : World) → Far job f [] w
       → ((rests (job_setup job) (suc more) q w ≡ w) × (is_quiet (job_setup job) q w ≡ true)) ⊎ Far job (one_more q f) [] (rests (job_setup job) (suc more) q w)
@@ -45,7 +45,7 @@ module _ (job : Job) (sums : Summing job) where
       of : (b : Bool) → is_quiet s q w ≡ b
           → (((elim b as (λ c. World) [ true ↦ w | false ↦ rests s more q (steps s q w) ]) ≡ w) × (b ≡ true)) ⊎ Far job (one_more q f) [] (elim b as (λ c. World) [ true ↦ w | false ↦ rests s more q (steps s q w) ])
       of true e = inl (refl, refl)
-      of false e = inr (rest_keeps s (Far job (one_more q f)) (far_kept job sums (one_more q f)) [] more q (steps s q w) (step_further f [] q w is e))
+      of false e = inr (rest_keeps s (Far job (one_more q f)) (far_kept job asking (one_more q f)) [] more q (steps s q w) (step_further f [] q w is e))
 
   -- in its turn a process only attends, and then nothing more can happen to it; or it comes further
   abbrev OnlyAttends : ℕ → World → World → Type 0
@@ -56,7 +56,7 @@ module _ (job : Job) (sums : Summing job) where
     where
       of : (b : Bool) → up s w q ≡ b → OnlyAttends q w (if b then rests s (suc more) q (attends s q w) else w) ⊎ Far job (one_more q f) [] (if b then rests s (suc more) q (attends s q w) else w)
       of false e = inl (attended_not q w, λ on. absurd (let bad : true ≡ false = sym on ∙ e in cc))
-      of true e = elim (rest_further f more q (attends s q w) (attend_keeps s (Far job f) (far_kept job sums f) [] q w e is)) [
+      of true e = elim (rest_further f more q (attends s q w) (attend_keeps s (Far job f) (far_kept job asking f) [] q w e is)) [
         | inr further ↦ inr further
         | inl stays ↦
             let a = attends_attended s q w e in
@@ -76,7 +76,7 @@ module _ (job : Job) (sums : Summing job) where
     | inr further ↦ inr (
       further.0,
       (let low = further.1 in omega (arith, low)),
-      turn_keeps s (Far job (one_more further.0 f)) (far_kept job sums (one_more further.0 f)) [] (suc more) n v further.2,
+      turn_keeps s (Far job (one_more further.0 f)) (far_kept job asking (one_more further.0 f)) [] (suc more) n v further.2,
     )
     | inl still ↦ elim (turn_further f more n v before) [
       | inr further ↦ inr (n, omega arith, further)
@@ -88,7 +88,7 @@ module _ (job : Job) (sums : Summing job) where
       v = in_rising_order (fair_turn s (suc more)) n w
 
       before : Far job f [] (in_rising_order (fair_turn (job_setup job) (suc more)) n w)
-      before = rising_keep (Far job f []) (fair_turn s (suc more)) (λ o x. turn_keeps s (Far job f) (far_kept job sums f) [] (suc more) o x) n w is
+      before = rising_keep (Far job f []) (fair_turn s (suc more)) (λ o x. turn_keeps s (Far job f) (far_kept job asking f) [] (suc more) o x) n w is
 
       both : AllStill n (in_rising_order (fair_turn (job_setup job) (suc more)) n w)
           → OnlyAttends n (in_rising_order (fair_turn (job_setup job) (suc more)) n w) (fair_turn (job_setup job) (suc more) n (in_rising_order (fair_turn (job_setup job) (suc more)) n w))
@@ -111,4 +111,4 @@ module _ (job : Job) (sums : Summing job) where
   ]
 
   pub round_far : (f : ℕ → ℕ) (fuel : ℕ) (w : World) → Far job f [] w → Far job f [] (fair_round (job_setup job) fuel w)
-  round_far f fuel w is = round_keeps s (Far job f) (far_kept job sums f) [] fuel w is
+  round_far f fuel w is = round_keeps s (Far job f) (far_kept job asking f) [] fuel w is

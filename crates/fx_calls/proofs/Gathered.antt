@@ -6,7 +6,9 @@ use Rattle.fx_ballot.proofs.Names.{seat_found, names_seats}
 use Rattle.fx_base.specs.declared.names.Op.{Op}
 use Rattle.fx_comm.specs.Seats.{Seat}
 use Rattle.fx_store.proofs.Mirrors.{each_at}
+use Rattle.std.proofs.lemmas.Bool.Decides.{nat_tests}
 use Rattle.fx_walk.specs.declared.wanted.Wanted.{Wanted}
+use Rattle.fx_walk.specs.declared.wanted.Wanted.TheVariants as wanted
 use Rattle.fx_walk.specs.Plan.{common_of, Reduce, Shift}
 use Rattle.fx_walk.specs.Values.{reduced}
 use Rattle.fx_machine.specs.Gathering.{source_of, target_of, own_part, due_from, part_of, numbers_of, total, are_gathered}
@@ -16,9 +18,12 @@ use Rattle.fx_legal.specs.Calls.{AllAsked, own_number, own_elements}
 use Rattle.fx_legal.specs.Ledger.{Ledger, comm_in}
 use Rattle.fx_calm.proofs.Lists.{Each, equal}
 use Rattle.fx_calls.proofs.Places.{same_length}
-use Rattle.fx_calls.proofs.Parts.{place_of, IsPart, TruePart, part_found, source_back, source_below, numbers_are, elements_at, all_asked, reduce_is, shift_is}
+use Rattle.fx_calls.proofs.Parts.{place_of, IsPart, TruePart, part_found, part_passes, source_back, source_below, numbers_are, elements_at, all_asked, reduce_is, shift_is}
 use Rattle.fx_calls.proofs.Plans as plans
 use Rattle.fx_calls.proofs.Plans.{some_of}
+
+is_itself : (a : ℕ) → (a == a) ≡ true
+is_itself a = grind (arith, nat_tests)
 
 module _ (l : Ledger) (n : Node) (p : ℕ) (own : n.me ≡ p) (comm : comm_in l n.epoch ≡ n.comm) (apart : Distinct (members n)) (there : has (members n) p ≡ true) (asked : Wanted)
     (entered : l.entered n.epoch n.calls p ≡ Some asked) (alike : (q : ℕ) (v : Wanted) → l.entered n.epoch n.calls q ≡ Some v → common_of v ≡ common_of asked)
@@ -137,3 +142,21 @@ module _ (l : Ledger) (n : Node) (p : ℕ) (own : n.me ≡ p) (comm : comm_in l 
         of false e =
             let r : IsRead (source by) v.0 false = read (source by) v.0 v.1 false e in
             r.are ∙ shift_is by r.asked (alike (proc_at n (source by)) r.asked r.at ∙ of_all) (comm_in l n.epoch) (proc_at n (source by)) p reached ∙ sym (ap own_elements r.at)
+
+    -- a shift is given as many elements as it gives away
+    pub given_as_many : (by : ℕ) (elements : List ℤ) → asked ≡ wanted.Shift by elements → length (numbers_of n asked (source_of (size n) by (my_place n))) ≡ length elements
+    given_as_many by elements shifts = ap (λ (o : Option (List ℤ)). length (unwrap_or o [])) v.1 ∙ of (source by == my_place n) refl
+      where
+        v : (values : List ℤ) × (part_of n asked (source by) ≡ Some values)
+        v = part_there (source by) (source_below (size n) by (my_place n) my_place_below)
+
+        due : due_from (wanted.Shift by elements) (size n) (my_place n) (source by) ≡ length elements
+        due = ap (λ (b : Bool). if b then length elements else 0) (is_itself (source by))
+
+        of : (b : Bool) → (source by == my_place n) ≡ b → length v.0 ≡ length elements
+        of true e = ap (λ (values : List ℤ). length values) (read (source by) v.0 v.1 true e).1 ∙ ap (λ (o : Wanted). length (own_part o)) shifts
+        of false e =
+            equal (length v.0) (due_from asked (size n) (my_place n) (source by))
+            (part_passes (λ values. length values == due_from asked (size n) (my_place n) (source by)) n.epoch n.calls (n.texts (proc_at n (source by))) v.0
+            (sym (ap (λ (b : Bool). if b then Some (own_part asked) else heard (source by)) e) ∙ v.1))
+            ∙ ap (λ (o : Wanted). due_from o (size n) (my_place n) (source by)) shifts ∙ due

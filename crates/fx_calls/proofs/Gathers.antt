@@ -17,6 +17,7 @@ use Rattle.fx_walk.specs.declared.wanted.Wanted.{Wanted}
 use Rattle.fx_walk.specs.Callbacks.{state_at, no_latest}
 use Rattle.fx_walk.specs.Along.{stop_of}
 use Rattle.fx_walk.specs.Plan.{Keeps}
+use Rattle.fx_value.specs.Shape.{Fits, StaysShaped}
 use Rattle.fx_walk.specs.Walk.{Walk, Reply}
 use Rattle.fx_machine.specs.Ballots.{joined}
 use Rattle.fx_machine.specs.Nodes as nodes
@@ -81,13 +82,13 @@ use Rattle.fx_walk.specs.Plan.{common_of, number_set, Reduce, Shift}
 use Rattle.fx_walk.specs.Values.{reduced}
 use Rattle.fx_walk.specs.Walk.{Given, Nothing, Number, Elements, Asks}
 use Rattle.fx_calls.proofs.Calling.{asks_same, calling_of, granted, are_like, IsCause, parts_apart, no_told}
-use Rattle.fx_calls.proofs.Gathered.{all_entered, total_is, shifted_is}
+use Rattle.fx_calls.proofs.Gathered.{all_entered, total_is, shifted_is, given_as_many}
 use Rattle.fx_calls.proofs.Parts.{IsPart, meant}
 use Rattle.fx_calls.proofs.Places as places
 use Rattle.fx_calls.proofs.Places.{era_apart, procs_distinct, sent_true, places_true}
 use Rattle.fx_calls.proofs.Plans as plans
 use Rattle.fx_calls.proofs.Plans.{IsBehind, IsEntry, number_due, plan_grows, entered_alike}
-use Rattle.fx_calls.proofs.Stepped.{Behind, keeps_behind, meets_next, node_latest, ledger_latest}
+use Rattle.fx_calls.proofs.Stepped.{Behind, gives_next, keeps_behind, meets_next, node_latest, ledger_latest}
 use Rattle.fx_ballot.specs.World.{Member, enters, is_outside}
 use Rattle.fx_ballot.specs.World.{stays, own_after}
 use Rattle.fx_machine.specs.Nodes.{silently}
@@ -246,7 +247,7 @@ module _ (job : Job) (w : World) (z : ℕ → ballot.World) (fate : ℕ → Opti
             of false b = ap (λ (o : Bool). (if o then at_key n.me into (l.entered d number) else l.entered e j) p) b ∙ is
 
     entry_met : IsEntry job l d n.calls v
-    entry_met = record { before = left.plan; at = left.at; meets = meets_next a.place v a.state rest left.plan of_parts (subst (λ (o : Walk). Keeps o left.plan no_latest) a.walk left.keeps) }
+    entry_met = record { before = left.plan; at = left.at; meets = meets_next a.place v a.state rest left.plan of_parts (subst (λ (o : Walk). Keeps o left.plan no_latest) a.walk left.keeps); long = gives_next job.names a.place v a.state rest left.plan of_parts (subst (StaysShaped job.names) a.walk (walks.mine_before job w z fate l polls p facts).shaped).0 (subst (λ (o : Walk). Keeps o left.plan no_latest) a.walk left.keeps) }
 
     abbrev pub node_then : Node
     node_then = asking.entered core n
@@ -261,6 +262,7 @@ module _ (job : Job) (w : World) (z : ℕ → ballot.World) (fate : ℕ → Opti
         | inr old ↦ plans.entry_grows job l behind_entry entry_grows e j x ((walks.entries_before job w z fate l polls p facts) e j x old)
       ];
       mine = record {
+        shaped = (walks.mine_before job w z fate l polls p facts).shaped;
         uncreated = (walks.mine_before job w z fate l polls p facts).uncreated;
         past = λ e j x is. elim (entry_or e j x is) [
           | inl same ↦ inr (same.0, (let call = same.1 in omega (arith, call)))
@@ -443,12 +445,13 @@ module _ (job : Job) (w : World) (z : ℕ → ballot.World) (fate : ℕ → Opti
     )
 
     pub returns_does : (it : Item) (given : Given) (x : Stand) → x ≡ replied given → Wrote job l p (noted (it ∷ [])) x → (written_all job l (noted (it ∷ []))).entered ≡ l.entered
-        → number_set (common_of v) given ≡ number_due (common_of v) (plans.numbers_of (l.entered d n.calls) (comm_in l d)) → AllAsked (l.entered d n.calls) (comm_in l d)
+        → number_set (common_of v) given ≡ number_due (common_of v) (plans.numbers_of (l.entered d n.calls) (comm_in l d)) → Fits v given → AllAsked (l.entered d n.calls) (comm_in l d)
         → Heeds p (nodes.writing (it ∷ []) (goes_on rest given n)) l (written_all job l (noted (it ∷ []))) polls → Does job p (nodes.writing (it ∷ []) (goes_on rest given n)) w z fate l polls
-    returns_does it given x at r same set all heeds =
+    returns_does it given x at r same set fits all heeds =
         (walks.writes_does job w z fate l polls p facts) (it ∷ []) (goes_on rest given n) x (writes_aside n _ _ refl refl refl refl refl refl refl) outside later_place.0 later_place.1 r same
         (record { stay = within.stay; stays = record { within = within.stays.within; calls = within.stays.calls; none_created = within.stays.none_created }; stand = at })
-        (λ c. refl) (walks.mine_before job w z fate l polls p facts).uncreated refl refl
+        (λ c. refl) ((subst (StaysShaped job.names) i.walk (walks.mine_before job w z fate l polls p facts).shaped).1 (record { given = given; latest = latest n }) fits)
+        (walks.mine_before job w z fate l polls p facts).uncreated refl refl
         (record {
           plan = b.left;
           at = subst (λ (o : ℕ). PlanAt job l d o b.left) (sym inside.calls) (
@@ -476,12 +479,15 @@ module _ (job : Job) (w : World) (z : ℕ → ballot.World) (fate : ℕ → Opti
           → gathering.numbers_of n v (source_of (size n) by (my_place n)) ≡ get_or (map (λ s. own_elements (l.entered d n.calls s.1.0)) (comm_in l d)) (source_of (size n) by (my_place n)) []
       shifted_as = shifted_is l n p own (comm_at outside) distinct seated v entered_it entered_so (sp.texts p) all
 
+      as_many : (by : ℕ) (elements : List ℤ) → v ≡ wanted.Shift by elements → length (gathering.numbers_of n v (source_of (size n) by (my_place n))) ≡ length elements
+      as_many = given_as_many l n p own (comm_at outside) distinct seated v entered_it entered_so (sp.texts p) all
+
     -- a call that fails
     fails_does : (it : Item) → Wrote job l p (noted (it ∷ [])) (stand.Failed d (state_of n)) → (written_all job l (noted (it ∷ []))).entered ≡ l.entered
         → Heeds p (nodes.writing (it ∷ []) (record n { stage = Failed })) l (written_all job l (noted (it ∷ []))) polls → Does job p (nodes.writing (it ∷ []) (record n { stage = Failed })) w z fate l polls
     fails_does it r same heeds =
         (walks.writes_does job w z fate l polls p facts) (it ∷ []) (record n { stage = Failed }) (stand.Failed d (state_of n)) (writes_aside n _ _ refl refl refl refl refl refl refl) outside later_place.0 later_place.1 r same refl
-        (λ c. refl) (walks.mine_before job w z fate l polls p facts).uncreated refl refl tt heeds
+        (λ c. refl) (walks.mine_before job w z fate l polls p facts).shaped (walks.mine_before job w z fate l polls p facts).uncreated refl refl tt heeds
 
     failed_as : effects.failed (l.stands n.me) ≡ stand.Failed d (state_of n)
     failed_as =
@@ -567,7 +573,7 @@ module _ (job : Job) (w : World) (z : ℕ → ballot.World) (fate : ℕ → Opti
         joined = refl;
         chapters = refl;
         kills = refl;
-      }) refl refl (all_in Gathering wanted.Barrier rest i all)
+      }) refl refl tt (all_in Gathering wanted.Barrier rest i all)
       (heeds_parts Gathering wanted.Barrier rest i it (goes_on rest Nothing n) (written job l it) (return_grows Gathering wanted.Barrier rest i (written job l it) (effects.returned groups_then Nothing (l.stands n.me)) refl refl refl refl) tt refl refl refl refl refl (λ c. refl))
     where
       it : Item
@@ -596,7 +602,7 @@ module _ (job : Job) (w : World) (z : ℕ → ballot.World) (fate : ℕ → Opti
         joined = refl;
         chapters = refl;
         kills = refl;
-      }) refl (ap (λ (o : ℤ). Some o) folded) (all_in Gathering v rest i all)
+      }) refl (ap (λ (o : ℤ). Some o) folded) tt (all_in Gathering v rest i all)
       (heeds_parts Gathering v rest i (it value) (goes_on rest (Number value) n) (written job l (it value)) (return_grows Gathering v rest i (written job l (it value)) (effects.returned l.groups (Number value) (l.stands n.me)) refl refl refl refl) tt refl refl refl refl refl (λ c. refl))
     where
       v : Wanted
@@ -632,7 +638,7 @@ module _ (job : Job) (w : World) (z : ℕ → ballot.World) (fate : ℕ → Opti
         joined = refl;
         chapters = refl;
         kills = refl;
-      }) refl refl (all_in Gathering v rest i all)
+      }) refl refl (as_many Gathering v rest i all by elements refl) (all_in Gathering v rest i all)
       (heeds_parts Gathering v rest i (it list) (goes_on rest (Elements list) n) (written job l (it list)) (return_grows Gathering v rest i (written job l (it list)) (effects.returned l.groups (Elements list) (l.stands n.me)) refl refl refl refl) tt refl refl refl refl refl (λ c. refl))
     where
       v : Wanted

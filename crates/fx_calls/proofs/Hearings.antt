@@ -60,7 +60,7 @@ texts_grow polls now g a ts all = each_weaker (TrueText polls a) (TrueText now a
 
 -- ---- readings
 
-vote_here : (polls : Polls) (e k a : ℕ) (t : Text) (x : Slot) → TrueText polls a t → vote_in (OfCall e k) t ≡ Some x → vote_of (polls e k) a ≡ Some x
+pub vote_here : (polls : Polls) (e k a : ℕ) (t : Text) (x : Slot) → TrueText polls a t → vote_in (OfCall e k) t ≡ Some x → vote_of (polls e k) a ≡ Some x
 vote_here polls e k a (text.Join d kind) x is at = absurd (let bad : None ≡ Some x = at in cc)
 vote_here polls e k a (text.Jest d r slots) x is at = absurd (let bad : None ≡ Some x = at in cc)
 vote_here polls e k a (text.Part d j values) x is at = absurd (let bad : None ≡ Some x = at in cc)
@@ -75,7 +75,7 @@ vote_here polls e k a (text.Tell d j known) x is at = absurd (let bad : None ≡
 vote_here polls e k a (text.Help d j packed) x is at = absurd (let bad : None ≡ Some x = at in cc)
 vote_here polls e k a (text.Give d j packed) x is at = absurd (let bad : None ≡ Some x = at in cc)
 
-estimate_here : (polls : Polls) (e k r a : ℕ) (t : Text) (x : List Slot) → TrueText polls a t → estimate_in (OfCall e k) r t ≡ Some x → estimate_of (polls e k) a ≡ Some x
+pub estimate_here : (polls : Polls) (e k r a : ℕ) (t : Text) (x : List Slot) → TrueText polls a t → estimate_in (OfCall e k) r t ≡ Some x → estimate_of (polls e k) a ≡ Some x
 estimate_here polls e k r a (text.Join d kind) x is at = absurd (let bad : None ≡ Some x = at in cc)
 estimate_here polls e k r a (text.Jest d q slots) x is at = absurd (let bad : None ≡ Some x = at in cc)
 estimate_here polls e k r a (text.Part d j values) x is at = absurd (let bad : None ≡ Some x = at in cc)

@@ -27,8 +27,7 @@ use Rattle.fx_legal.specs.Legal.{written_all, ledger_of}
 use Rattle.fx_legal.specs.Stands.{is_killed}
 use Rattle.fx_losses.specs.Losses.{HasLoss, RepairsLoss, RepairLosses}
 use Rattle.fx_losses.proofs.Shows.{up_parts}
-use Rattle.fx_calls.specs.Bodies.{AsksSums}
-use Rattle.fx_calls.proofs.Bodies.{sums_ask_no_groups}
+use Rattle.fx_calls.specs.Bodies.{AsksNoGroups}
 use Rattle.fx_calls.proofs.Causes.{Caused, place_begun}
 use Rattle.fx_calls.proofs.Deeds.{deed_does}
 use Rattle.fx_calls.proofs.Legally.{Legally, noted_more}
@@ -101,8 +100,8 @@ losses_behind job l (x ∷ xs) ys all = losses_behind job (written job l x) xs y
 
 -- ---- a step
 
-module _ (job : Job) (rules : KeepsByParts job) (planned : HavePlans job) (asks : AsksSums job) (ps : List ℕ) (p : ℕ) (w : World) (act : Act) (on : up (job_setup job) w p ≡ true) (e : next (job_setup job) (w.node p) ≡ Some act)
-    (caused : Caused job ps w) (later : Caused job ps (does (job_setup job) p act w)) where
+module _ (job : Job) (rules : KeepsByParts job) (planned : HavePlans job) (asks : AsksNoGroups job) (ps : List ℕ) (p : ℕ) (w : World) (act : Act)
+    (on : up (job_setup job) w p ≡ true) (e : next (job_setup job) (w.node p) ≡ Some act) (caused : Caused job ps w) (later : Caused job ps (does (job_setup job) p act w)) where
   abbrev s : Setup
   s = job_setup job
 
@@ -120,7 +119,7 @@ module _ (job : Job) (rules : KeepsByParts job) (planned : HavePlans job) (asks 
 
   o : Does job p act w is.worlds is.fate l is.polls
   o = deed_does job w is.worlds is.fate l is.polls p
-      (record { rules = rules; planned = planned; asks = sums_ask_no_groups job asks; here = on; shows = is.shows; truthful = is.truthful; linked = is.linked; stepped = is.stepped; spoken = is.spoken; polled = is.polled; delivered = is.delivered }) act (is_deed s (w.node p) act e)
+      (record { rules = rules; planned = planned; asks = asks; here = on; shows = is.shows; truthful = is.truthful; linked = is.linked; stepped = is.stepped; spoken = is.spoken; polled = is.polled; delivered = is.delivered }) act (is_deed s (w.node p) act e)
 
   more : noted (does s p act w).items ≡ noted w.items ++ noted act.items
   more = noted_more p w.items act.items act.sends

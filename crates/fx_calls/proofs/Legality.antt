@@ -7,6 +7,7 @@ use Rattle.fx_ballot.specs.World.{start}
 use Rattle.fx_check.specs.Work.{bound_of}
 use Rattle.fx_link.specs.declared.slot.Slot.{Slot}
 use Rattle.fx_script.specs.declared.job.Job.{Job}
+use Rattle.fx_value.proofs.Shapes.{shaped_blank}
 use Rattle.fx_store.proofs.Mirrors.{each_at, each_from}
 use Rattle.fx_fleet.specs.Rounds.{Moment, is_of_journal, all_happen, journal, all_over, whole}
 use Rattle.fx_check.specs.Parts.{KeepsByParts}
@@ -78,7 +79,7 @@ begins job = record {
   };
   stepped = record {
     entries = λ e k q v is. absurd (let bad : None ≡ Some v = is in cc);
-    nodes = λ q alive. record { uncreated = λ g. refl; past = λ e k v is. absurd (let bad : None ≡ Some v = is in cc); at = tt };
+    nodes = λ q alive. record { shaped = shaped_blank job.names; uncreated = λ g. refl; past = λ e k v is. absurd (let bad : None ≡ Some v = is in cc); at = tt };
   };
   spoken = spoken_first (job_setup job) (first_ledger job);
   polls = none_polled;

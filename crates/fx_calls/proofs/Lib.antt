@@ -33,14 +33,16 @@ pub mod Hearing
 pub mod Losing
 pub mod Legality
 pub mod Losses
+pub mod Agreeing
+pub mod Phases
 pub mod Stuck
 pub mod Still
-pub mod Over
 pub mod Lapses
 pub mod Counts
 pub mod Heights
 pub mod Rising
 pub mod Attended
 pub mod Fair
+pub mod Over
 pub mod Rests
 pub mod Ends

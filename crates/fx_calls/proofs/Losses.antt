@@ -23,16 +23,14 @@ use Rattle.fx_losses.proofs.Losses.{loses_others, slain_not}
 use Rattle.fx_losses.proofs.Schedule.{kills_of}
 use Rattle.fx_check.specs.Work.{bound_of}
 use Rattle.fx_check.specs.Parts.{KeepsByParts}
-use Rattle.fx_walk.specs.declared.wanted.Wanted.{Wanted}
 use Rattle.fx_walk.specs.declared.wanted.Wanted.TheVariants as wanted
-use Rattle.fx_calls.specs.Bodies.{IsOfSums, IsUnshifted, AsksSums, AsksNoShifts}
-use Rattle.fx_calls.proofs.Bodies.{sums_unshifted}
+use Rattle.fx_calls.specs.Bodies.{AsksNoGroups}
 use Rattle.fx_losses.proofs.Legality.{KillsProcesses}
 use Rattle.fx_losses.proofs.Moments.{IsKeptAlong, always_along}
 use Rattle.fx_calls.proofs.Hearing.{hears_legally, hears_polls, hears_said, tells_legally, tells_polls, tells_said, same_journal}
 use Rattle.fx_calls.proofs.Losing.{loses_legally, loses_votes, loses_said, told, ledger_now, grows}
 use Rattle.fx_calls.proofs.Legality.{passes_legally, passes_polls, begins, begins_said}
-use Rattle.fx_calls.proofs.Causes.{Causes, Caused, CausedOf, HaveVoted, BodyAsks, AsksAt, loss_grows, caused_grows}
+use Rattle.fx_calls.proofs.Causes.{Causes, Caused, HaveVoted, AsksAt, loss_grows, caused_grows}
 use Rattle.fx_calls.proofs.Causing.{caused_by}
 use Rattle.fx_losses.specs.Losses.{HasLoss, RepairLosses, EachEpochHasItsLoss}
 use Rattle.fx_losses.proofs.Voted.{losses_more}
@@ -45,12 +43,12 @@ record Alike (m n : Node) : Type 0 where
   pub epoch : m.epoch ≡ n.epoch
   pub walk : m.walk ≡ n.walk
 
-causes_same : (May : Wanted → Type 0) (job : Job) (l : Ledger) (w v : World) → ((q : ℕ) → v.killed q ≡ w.killed q) → ((q : ℕ) → Alike (v.node q) (w.node q)) → Causes May job w l → Causes May job v l
-causes_same May job l w v killed same c = record {
+causes_same : (job : Job) (l : Ledger) (w v : World) → ((q : ℕ) → v.killed q ≡ w.killed q) → ((q : ℕ) → Alike (v.node q) (w.node q)) → Causes job w l → Causes job v l
+causes_same job l w v killed same c = record {
   begun = c.begun;
   kinds = c.kinds;
   failures = λ q alive at. subst (HasLoss l) (sym (same q).epoch) (c.failures q (sym (killed q) ∙ alive) (sym (same q).stage ∙ at));
-  sums = λ q alive. subst (λ (a : Stage). AsksAt May a (v.node q).walk) (sym (same q).stage) (subst (AsksAt May (w.node q).stage) (sym (same q).walk) (c.sums q (sym (killed q) ∙ alive)));
+  asks = λ q alive. subst (λ (a : Stage). AsksAt a (v.node q).walk) (sym (same q).stage) (subst (AsksAt (w.node q).stage) (sym (same q).walk) (c.asks q (sym (killed q) ∙ alive)));
 }
 
 alike_at : (node : ℕ → Node) (b : ℕ) (m : Node) → Alike m (node b) → (q : ℕ) → Alike (put node b m q) (node q)
@@ -59,37 +57,37 @@ alike_at node b m is q = elim (cases_eq q b) [
   | inr ne ↦ subst (λ (x : Node). Alike x (node q)) (sym (put_other node b q m ne)) (record { stage = refl; epoch = refl; walk = refl })
 ]
 
-quiet : (May : Wanted → Type 0) (job : Job) (ps : List ℕ) (w v : World) → noted v.items ≡ noted w.items → ((q : ℕ) → v.killed q ≡ w.killed q) → ((q : ℕ) → Alike (v.node q) (w.node q)) → (is : Legally job ps v) (c : CausedOf May job ps w) → is.polls ≡ c.legally.polls → Said (job_setup job) v (ledger_of job (noted v.items)) is.polls → CausedOf May job ps v
-quiet May job ps w v silent killed same is c polls said = record {
+quiet : (job : Job) (ps : List ℕ) (w v : World) → noted v.items ≡ noted w.items → ((q : ℕ) → v.killed q ≡ w.killed q) → ((q : ℕ) → Alike (v.node q) (w.node q)) → (is : Legally job ps v) (c : Caused job ps w) → is.polls ≡ c.legally.polls → Said (job_setup job) v (ledger_of job (noted v.items)) is.polls → Caused job ps v
+quiet job ps w v silent killed same is c polls said = record {
   legally = is;
   voted = subst (HaveVoted (ledger_of job (noted v.items))) (sym polls) (subst (λ (items : List Item). HaveVoted (ledger_of job items) c.legally.polls) (sym silent) c.voted);
-  causes = subst (λ (items : List Item). Causes May job v (ledger_of job items)) (sym silent) (causes_same May job (ledger_of job (noted w.items)) w v killed same c.causes);
+  causes = subst (λ (items : List Item). Causes job v (ledger_of job items)) (sym silent) (causes_same job (ledger_of job (noted w.items)) w v killed same c.causes);
   losses = subst (RepairLosses job (first_ledger job)) (sym silent) c.losses;
   said = said;
 }
 
-hears_caused : (May : Wanted → Type 0) (job : Job) (ps : List ℕ) (a b : ℕ) (t : Text) (rest : List Text) (w : World) → up (job_setup job) w b ≡ true → w.link a b ≡ t ∷ rest → CausedOf May job ps w → CausedOf May job ps (receives_front a b (t ∷ rest) w)
-hears_caused May job ps a b t rest w on front c =
-    quiet May job ps w (receives_front a b (t ∷ rest) w) (same_journal w.items (item.Deliver (proc a) (proc b) (message_of t)) refl) (λ q. refl)
+hears_caused : (job : Job) (ps : List ℕ) (a b : ℕ) (t : Text) (rest : List Text) (w : World) → up (job_setup job) w b ≡ true → w.link a b ≡ t ∷ rest → Caused job ps w → Caused job ps (receives_front a b (t ∷ rest) w)
+hears_caused job ps a b t rest w on front c =
+    quiet job ps w (receives_front a b (t ∷ rest) w) (same_journal w.items (item.Deliver (proc a) (proc b) (message_of t)) refl) (λ q. refl)
     (alike_at w.node b (receives a t (w.node b)) (record { stage = refl; epoch = refl; walk = refl })) (hears_legally job ps a b t rest w on front c.legally) c (hears_polls job ps a b t rest w on front c.legally) (hears_said job ps a b t rest w on front c.legally c.said)
 
-tells_caused : (May : Wanted → Type 0) (job : Job) (ps : List ℕ) (a b : ℕ) (w : World) → w.killed a ≡ true → CausedOf May job ps w → CausedOf May job ps (learns a b w)
-tells_caused May job ps a b w dead c =
-    quiet May job ps w (learns a b w) (same_journal w.items (item.Told (proc a) (proc b)) refl) (λ q. refl)
+tells_caused : (job : Job) (ps : List ℕ) (a b : ℕ) (w : World) → w.killed a ≡ true → Caused job ps w → Caused job ps (learns a b w)
+tells_caused job ps a b w dead c =
+    quiet job ps w (learns a b w) (same_journal w.items (item.Told (proc a) (proc b)) refl) (λ q. refl)
     (alike_at w.node b (is_told a (w.node b)) (record { stage = refl; epoch = refl; walk = refl })) (tells_legally job ps a b w dead c.legally) c (tells_polls job ps a b w dead c.legally) (tells_said job ps a b w dead c.legally c.said)
 
-loses_caused : (May : Wanted → Type 0) (job : Job) (ps : List ℕ) (p : ℕ) (w : World) → up (job_setup job) w p ≡ true → CausedOf May job (p ∷ ps) w → CausedOf May job ps (loses (job_setup job) p w)
-loses_caused May job ps p w on c = record {
+loses_caused : (job : Job) (ps : List ℕ) (p : ℕ) (w : World) → up (job_setup job) w p ≡ true → Caused job (p ∷ ps) w → Caused job ps (loses (job_setup job) p w)
+loses_caused job ps p w on c = record {
   legally = loses_legally job ps p w on c.legally;
   voted = subst (λ (x : Ledger). HaveVoted x (loses_legally job ps p w on c.legally).polls) (sym (ledger_now job ps p w on c.legally)) (λ e k q flag at. ap is_some (loses_votes job ps p w on c.legally e k q) ∙ c.voted e k q flag at);
-  causes = subst (Causes May job (loses (job_setup job) p w)) (sym (ledger_now job ps p w on c.legally)) (record {
+  causes = subst (Causes job (loses (job_setup job) p w)) (sym (ledger_now job ps p w on c.legally)) (record {
     begun = λ d q v at. c.causes.begun d q v at;
     kinds = λ d q v pos at place. caused_grows job l m g d v (c.causes.kinds d q v pos at place);
     failures = λ q alive. let n = slain_not p q w.killed alive in
         subst (λ (x : Node). x.stage ≡ Failed → HasLoss m x.epoch) (sym (loses_others (job_setup job) p w c.legally.worlds c.legally.fate c.legally.shows q n.0))
         (λ at. loss_grows l m g (w.node q).epoch (c.causes.failures q n.1 at));
-    sums = λ q alive. let n = slain_not p q w.killed alive in
-        subst (λ (x : Node). AsksAt May x.stage x.walk) (sym (loses_others (job_setup job) p w c.legally.worlds c.legally.fate c.legally.shows q n.0)) (c.causes.sums q n.1);
+    asks = λ q alive. let n = slain_not p q w.killed alive in
+        subst (λ (x : Node). AsksAt x.stage x.walk) (sym (loses_others (job_setup job) p w c.legally.worlds c.legally.fate c.legally.shows q n.0)) (c.causes.asks q n.1);
   });
   said = loses_said job ps p w on c.legally c.said;
   losses = subst (RepairLosses job (first_ledger job)) (sym (told job ps p w on c.legally)) (losses_more job (first_ledger job) (noted w.items) (item.Kill (proc p) ∷ []) c.losses (tt, tt));
@@ -104,15 +102,15 @@ loses_caused May job ps p w on c = record {
     g : Grows (ledger_of job (noted w.items)) (written job (ledger_of job (noted w.items)) (item.Kill (proc p)))
     g = grows job ps p w on c.legally
 
-begins_so : (May : Wanted → Type 0) (job : Job) → CausedOf May job (kills_of (moments_of job)) (first_world (job_setup job))
-begins_so May job = record {
+pub begins_so : (job : Job) → Caused job (kills_of (moments_of job)) (first_world (job_setup job))
+begins_so job = record {
   legally = begins job;
   voted = λ e k q flag at. absurd (let bad : None ≡ Some (wanted.Agree flag) = at in cc);
   causes = record {
     begun = λ d q v at. absurd (let bad : None ≡ Some v = at in cc);
     kinds = λ d q v pos at place. absurd (let bad : None ≡ Some v = at in cc);
     failures = λ q alive at. absurd (let bad : true ≡ false = ap no_failure at in cc);
-    sums = λ q alive. tt;
+    asks = λ q alive. tt;
   };
   losses = tt;
   said = begins_said job;
@@ -122,21 +120,15 @@ begins_so May job = record {
     no_failure Failed = false
     no_failure other = true
 
-pub begins_caused : (job : Job) → Caused job (kills_of (moments_of job)) (first_world (job_setup job))
-begins_caused job = begins_so IsOfSums job
-
-kept_so : (May : Wanted → Type 0) → ((v : Wanted) → May v → IsUnshifted v) → (job : Job) → KeepsByParts job → HavePlans job → BodyAsks May job → IsKeptAlong (job_setup job) (CausedOf May job)
-kept_so May less job parts planned asks = record {
-  acts = λ ps p w act on e is. caused_by May less job parts planned asks ps p w on is act e (is_deed (job_setup job) (w.node p) act e);
-  hears = λ ps p q t rest w on e is. hears_caused May job ps p q t rest w on e is;
-  tells = λ ps p q w dead is. tells_caused May job ps p q w dead is;
-  loses = λ ps p w on is. loses_caused May job ps p w on is;
+pub kept_so : (job : Job) → KeepsByParts job → HavePlans job → AsksNoGroups job → IsKeptAlong (job_setup job) (Caused job)
+kept_so job parts planned asks = record {
+  acts = λ ps p w act on e is. caused_by job parts planned asks ps p w on is act e (is_deed (job_setup job) (w.node p) act e);
+  hears = λ ps p q t rest w on e is. hears_caused job ps p q t rest w on e is;
+  tells = λ ps p q w dead is. tells_caused job ps p q w dead is;
+  loses = λ ps p w on is. loses_caused job ps p w on is;
   passes = λ ps p w few off is. record { legally = passes_legally job ps p w few off is.legally; causes = is.causes; voted = subst (HaveVoted (ledger_of job (noted w.items))) (sym (passes_polls job ps p w few off is.legally)) is.voted; losses = is.losses; said = subst (Said (job_setup job) w (ledger_of job (noted w.items))) (sym (passes_polls job ps p w few off is.legally)) is.said };
 }
 
-pub kept_caused : (job : Job) → KeepsByParts job → HavePlans job → AsksSums job → IsKeptAlong (job_setup job) (Caused job)
-kept_caused job parts planned asks = kept_so IsOfSums sums_unshifted job parts planned asks
-
-pub has_losses : (job : Job) → KeepsByParts job → HavePlans job → AsksNoShifts job → KillsProcesses job → EachEpochHasItsLoss job (journal_of job)
+pub has_losses : (job : Job) → KeepsByParts job → HavePlans job → AsksNoGroups job → KillsProcesses job → EachEpochHasItsLoss job (journal_of job)
 has_losses job parts planned asks few =
-    (always_along (job_setup job) (CausedOf IsUnshifted job) (kept_so IsUnshifted (λ v is. is) job parts planned asks) (moments_of job) few (begins_so IsUnshifted job) (rest_bound_of job) (bound_of job)).losses
+    (always_along (job_setup job) (Caused job) (kept_so job parts planned asks) (moments_of job) few (begins_so job) (rest_bound_of job) (bound_of job)).losses

@@ -1,17 +1,20 @@
 -- A part that stands among texts is read, where it has the length that is due; and who has finished has entered all calls.
-use Rattle.std.proofs.Common.{◌≡◌, ℕ, ◌<◌, ◌≤◌, ◌==◌, zero, suc, Bool, true, false, ◌&&◌, ◌||◌, List, [], ◌∷◌, ◌++◌, length, Option, Some, None, inl, inr, arith, refl, ap, sym, subst, ◌∙◌, append_assoc}
-use Rattle.std.specs.Prelude.{ℤ, is_some, is_none}
+use Rattle.std.proofs.Common.{◌≡◌, ◌≢◌, ℕ, ◌<◌, ◌≤◌, ◌==◌, zero, suc, Bool, true, false, ◌&&◌, ◌||◌, List, [], ◌∷◌, ◌++◌, length, Option, Some, None, inl, inr, arith, refl, ap, sym, subst, ◌∙◌, append_assoc}
+use Rattle.std.specs.Prelude.{ℤ, if◌then◌else◌, is_some, is_none}
 use Rattle.std.specs.Option.{option_or, option_map}
 use Rattle.std.proofs.lemmas.Bool.Decides.{nat_tests}
 use Rattle.std.proofs.lemmas.Bool.{cases_eq, cases_lt}
+use Rattle.fx_ballot.specs.Names.{Distinct, seat_of}
+use Rattle.fx_ballot.proofs.Names.{names_seats, seat_found}
 use Rattle.fx_comm.specs.Seats.{Seat, has_place}
 use Rattle.fx_link.specs.declared.slot.Slot.{Slot}
 use Rattle.fx_script.specs.declared.job.Job.{Job}
 use Rattle.fx_walk.specs.declared.wanted.Wanted.{Wanted}
 use Rattle.fx_walk.specs.declared.wanted.Wanted.TheVariants as wanted
-use Rattle.fx_walk.specs.Plan.{Common, Barrier, Reduce, Agree, Shift, Group, Attach, Store, Commit, Close, Restore, Delete, common_of, Plan, Stops}
-use Rattle.fx_machine.specs.Gathering.{part_of, missing, gathering_error, due_from}
-use Rattle.fx_machine.specs.Nodes.{Node, size, proc_at}
+use Rattle.fx_walk.specs.Plan.{Common, Barrier, Reduce, Shift, common_of, Plan, Stops}
+use Rattle.fx_base.specs.declared.names.Op.{Op}
+use Rattle.fx_machine.specs.Gathering.{part_of, missing, gathering_error, due_from, source_of, target_of}
+use Rattle.fx_machine.specs.Nodes.{Node, members, my_place, size, proc_at}
 use Rattle.fx_machine.specs.Numbers.{first_below}
 use Rattle.fx_machine.specs.Reading.{OfEpoch, given_that, only, first_read, part_in, vote_in, has_left}
 use Rattle.fx_machine.specs.Texts as text
@@ -21,11 +24,13 @@ use Rattle.fx_legal.specs.Calls.{AllAsked}
 use Rattle.fx_legal.specs.Ledger.{Ledger, comm_in}
 use Rattle.fx_calm.proofs.Lists.{Each, equal}
 use Rattle.fx_losses.proofs.Tests.{first_of, second_of}
-use Rattle.fx_calls.specs.Bodies.{IsOfParts, IsOfSums}
+use Rattle.fx_calls.specs.Bodies.{IsOfParts}
 use Rattle.fx_calls.proofs.Calling.{first_is}
 use Rattle.fx_calls.proofs.Delivered.{is_part, has_part, Owes, Ordered, part_stays}
-use Rattle.fx_calls.proofs.Parts.{meant, IsPart, TruePart}
-use Rattle.fx_calls.proofs.Plans.{PlanAt, IsBehind, MeetsIt, plan_same}
+use Rattle.fx_calls.proofs.Parts.{meant, place_of, IsPart, TruePart, source_back, target_back}
+use Rattle.fx_calls.proofs.Places as places
+use Rattle.fx_calls.proofs.Places.{same_length}
+use Rattle.fx_calls.proofs.Plans.{PlanAt, IsBehind, MeetsIt, AsLong, EntryAt, entered_alike, entered_as_long, plan_same}
 
 -- ---- readings
 
@@ -120,54 +125,108 @@ all_came job l e k j counters u c stops meets at = elim (cases_lt j k) [
 
 -- ---- what is due
 
--- a part of a barrier or of a reduction has the length that is due
-pub sums_due : (v x : Wanted) → IsOfSums v → common_of x ≡ common_of v → (comm : List Seat) (a b n i j : ℕ) → (length (meant comm a b x) == due_from v n i j) ≡ true
-sums_due wanted.Barrier wanted.Barrier is e comm a b n i j = refl
-sums_due wanted.Barrier (wanted.Reduce op own) is e comm a b n i j = absurd (let bad : Reduce op ≡ Barrier = e in cc)
-sums_due wanted.Barrier (wanted.Agree flag) is e comm a b n i j = refl
-sums_due wanted.Barrier (wanted.Shift by elements) is e comm a b n i j = absurd (let bad : Shift by ≡ Barrier = e in cc)
-sums_due wanted.Barrier (wanted.Group g start depth) is e comm a b n i j = refl
-sums_due wanted.Barrier (wanted.Attach g m) is e comm a b n i j = refl
-sums_due wanted.Barrier (wanted.Store g m piece) is e comm a b n i j = refl
-sums_due wanted.Barrier (wanted.Commit g) is e comm a b n i j = refl
-sums_due wanted.Barrier (wanted.Close g) is e comm a b n i j = refl
-sums_due wanted.Barrier (wanted.Restore g m stamp) is e comm a b n i j = refl
-sums_due wanted.Barrier (wanted.Delete g stamp) is e comm a b n i j = refl
-sums_due (wanted.Reduce o n0) wanted.Barrier is e comm a b n i j = absurd (let bad : Barrier ≡ Reduce o = e in cc)
-sums_due (wanted.Reduce o n0) (wanted.Reduce op own) is e comm a b n i j = refl
-sums_due (wanted.Reduce o n0) (wanted.Agree flag) is e comm a b n i j = absurd (let bad : Agree ≡ Reduce o = e in cc)
-sums_due (wanted.Reduce o n0) (wanted.Shift by elements) is e comm a b n i j = absurd (let bad : Shift by ≡ Reduce o = e in cc)
-sums_due (wanted.Reduce o n0) (wanted.Group g start depth) is e comm a b n i j = absurd (let bad : Group g start depth ≡ Reduce o = e in cc)
-sums_due (wanted.Reduce o n0) (wanted.Attach g m) is e comm a b n i j = absurd (let bad : Attach g m ≡ Reduce o = e in cc)
-sums_due (wanted.Reduce o n0) (wanted.Store g m piece) is e comm a b n i j = absurd (let bad : Store g m ≡ Reduce o = e in cc)
-sums_due (wanted.Reduce o n0) (wanted.Commit g) is e comm a b n i j = absurd (let bad : Commit g ≡ Reduce o = e in cc)
-sums_due (wanted.Reduce o n0) (wanted.Close g) is e comm a b n i j = absurd (let bad : Close g ≡ Reduce o = e in cc)
-sums_due (wanted.Reduce o n0) (wanted.Restore g m stamp) is e comm a b n i j = absurd (let bad : Restore g m stamp ≡ Reduce o = e in cc)
-sums_due (wanted.Reduce o n0) (wanted.Delete g stamp) is e comm a b n i j = absurd (let bad : Delete g stamp ≡ Reduce o = e in cc)
-sums_due other x is e comm a b n i j = absurd is
+-- one is the place to which the other gives its elements where the other is the one whose elements it takes
+turned : (n by i j : ℕ) → i < n → j < n → (i == target_of n by j) ≡ (j == source_of n by i)
+turned n by i j less below = elim (cases_eq j (source_of n by i)) [
+  | inl same ↦
+      let back = source_back n by i less in
+      let there : i ≡ target_of n by j = sym back ∙ sym (ap (target_of n by) same) in
+      alike i (target_of n by j) j (source_of n by i) there same
+  | inr ne ↦
+      let back = target_back n by j below in
+      unlike i (target_of n by j) j (source_of n by i) (λ same. ne (sym back ∙ sym (ap (source_of n by) same))) ne
+]
+  where
+    alike : (a b c d : ℕ) → a ≡ b → c ≡ d → (a == b) ≡ (c == d)
+    alike a b c d same too = grind (arith, nat_tests, same, too)
 
--- what was asked as a barrier or a reduction is one
-pub sums_parts : (v x : Wanted) → IsOfSums v → common_of x ≡ common_of v → IsOfParts x
-sums_parts v wanted.Barrier is e = tt
-sums_parts v (wanted.Reduce op own) is e = tt
-sums_parts v (wanted.Shift by elements) is e = tt
-sums_parts wanted.Barrier (wanted.Agree flag) is e = absurd (let bad : Agree ≡ Barrier = e in cc)
-sums_parts (wanted.Reduce o n0) (wanted.Agree flag) is e = absurd (let bad : Agree ≡ Reduce o = e in cc)
-sums_parts wanted.Barrier (wanted.Group g start depth) is e = absurd (let bad : Group g start depth ≡ Barrier = e in cc)
-sums_parts (wanted.Reduce o n0) (wanted.Group g start depth) is e = absurd (let bad : Group g start depth ≡ Reduce o = e in cc)
-sums_parts wanted.Barrier (wanted.Attach g m) is e = absurd (let bad : Attach g m ≡ Barrier = e in cc)
-sums_parts (wanted.Reduce o n0) (wanted.Attach g m) is e = absurd (let bad : Attach g m ≡ Reduce o = e in cc)
-sums_parts wanted.Barrier (wanted.Store g m piece) is e = absurd (let bad : Store g m ≡ Barrier = e in cc)
-sums_parts (wanted.Reduce o n0) (wanted.Store g m piece) is e = absurd (let bad : Store g m ≡ Reduce o = e in cc)
-sums_parts wanted.Barrier (wanted.Commit g) is e = absurd (let bad : Commit g ≡ Barrier = e in cc)
-sums_parts (wanted.Reduce o n0) (wanted.Commit g) is e = absurd (let bad : Commit g ≡ Reduce o = e in cc)
-sums_parts wanted.Barrier (wanted.Close g) is e = absurd (let bad : Close g ≡ Barrier = e in cc)
-sums_parts (wanted.Reduce o n0) (wanted.Close g) is e = absurd (let bad : Close g ≡ Reduce o = e in cc)
-sums_parts wanted.Barrier (wanted.Restore g m stamp) is e = absurd (let bad : Restore g m stamp ≡ Barrier = e in cc)
-sums_parts (wanted.Reduce o n0) (wanted.Restore g m stamp) is e = absurd (let bad : Restore g m stamp ≡ Reduce o = e in cc)
-sums_parts wanted.Barrier (wanted.Delete g stamp) is e = absurd (let bad : Delete g stamp ≡ Barrier = e in cc)
-sums_parts (wanted.Reduce o n0) (wanted.Delete g stamp) is e = absurd (let bad : Delete g stamp ≡ Reduce o = e in cc)
-sums_parts other x is e = absurd is
+    unlike : (a b c d : ℕ) → a ≢ b → c ≢ d → (a == b) ≡ (c == d)
+    unlike a b c d ne too = grind (arith, nat_tests, ne, too)
+
+abbrev is_of_parts : Common → Bool
+is_of_parts Barrier = true
+is_of_parts (Reduce op) = true
+is_of_parts (Shift by) = true
+is_of_parts other = false
+
+-- what was asked as a call of parts is one
+pub parts_alike : (v u : Wanted) → IsOfParts v → common_of u ≡ common_of v → IsOfParts u
+parts_alike v u is e = back u (ap is_of_parts e ∙ forth v is)
+  where
+    forth : (v : Wanted) → IsOfParts v → is_of_parts (common_of v) ≡ true
+    forth wanted.Barrier is = refl
+    forth (wanted.Reduce op own) is = refl
+    forth (wanted.Shift by elements) is = refl
+    forth other is = absurd is
+
+    back : (u : Wanted) → is_of_parts (common_of u) ≡ true → IsOfParts u
+    back wanted.Barrier is = tt
+    back (wanted.Reduce op own) is = tt
+    back (wanted.Shift by elements) is = tt
+    back other is = absurd (let bad : false ≡ true = is in cc)
+
+barrier_due : (v : Wanted) → IsOfParts v → Barrier ≡ common_of v → (n i j : ℕ) → (0 == due_from v n i j) ≡ true
+barrier_due wanted.Barrier is e n i j = refl
+barrier_due (wanted.Reduce op own) is e n i j = absurd (let bad : Barrier ≡ Reduce op = e in cc)
+barrier_due (wanted.Shift by own) is e n i j = absurd (let bad : Barrier ≡ Shift by = e in cc)
+barrier_due other is e n i j = absurd is
+
+reduce_due : (op : Op) (v : Wanted) → IsOfParts v → Reduce op ≡ common_of v → (n i j : ℕ) → (1 == due_from v n i j) ≡ true
+reduce_due op wanted.Barrier is e n i j = absurd (let bad : Reduce op ≡ Barrier = e in cc)
+reduce_due op (wanted.Reduce other own) is e n i j = refl
+reduce_due op (wanted.Shift by own) is e n i j = absurd (let bad : Reduce op ≡ Shift by = e in cc)
+reduce_due op other is e n i j = absurd is
+
+shift_due : (by : ℕ) (theirs : List ℤ) (v : Wanted) → IsOfParts v → Shift by ≡ common_of v → AsLong v (wanted.Shift by theirs) → (n i j : ℕ) → i < n → j < n
+    → (length (if i == target_of n by j then theirs else []) == due_from v n i j) ≡ true
+shift_due by theirs wanted.Barrier is e long n i j less below = absurd (let bad : Shift by ≡ Barrier = e in cc)
+shift_due by theirs (wanted.Reduce op own) is e long n i j less below = absurd (let bad : Shift by ≡ Reduce op = e in cc)
+shift_due by theirs (wanted.Shift other own) is e long n i j less below =
+    ap (λ (o : Bool). length (if o then theirs else []) == due_from (wanted.Shift other own) n i j) (turned n by i j less below)
+    ∙ ap (λ (k : ℕ). length (if j == source_of n k i then theirs else []) == due_from (wanted.Shift other own) n i j) (same_by by other e)
+    ∙ of (j == source_of n other i)
+  where
+    same_by : (x y : ℕ) → Shift x ≡ Shift y → x ≡ y
+    same_by x y e = cc
+
+    as_many : (x y : ℕ) → x ≡ y → (x == y) ≡ true
+    as_many x y same = grind (arith, nat_tests, same)
+
+    of : (o : Bool) → (length (if o then theirs else []) == (if o then length own else 0)) ≡ true
+    of true = as_many (length theirs) (length own) long
+    of false = refl
+shift_due by theirs other is e long n i j less below = absurd is
+
+-- a part of a call has the length that is due
+pub parts_due : (v u : Wanted) → IsOfParts v → common_of u ≡ common_of v → AsLong v u → (comm : List Seat) (a b n i j : ℕ) → length comm ≡ n → place_of comm b ≡ i → place_of comm a ≡ j → i < n → j < n
+    → (length (meant comm a b u) == due_from v n i j) ≡ true
+parts_due v wanted.Barrier is e long comm a b n i j size here there less below = barrier_due v is e n i j
+parts_due v (wanted.Reduce op own) is e long comm a b n i j size here there less below = reduce_due op v is e n i j
+parts_due v (wanted.Shift by theirs) is e long comm a b n i j size here there less below = rw (size, here, there) (shift_due by theirs v is e long n i j less below)
+parts_due v other is e long comm a b n i j size here there less below = absurd (parts_alike v other is e)
+
+-- what a process entered a call with is, as far as this node is concerned, of the length that it waits for
+pub part_is_due : (job : Job) (l : Ledger) (e k : ℕ) (n : Node) (p x j : ℕ) (v : Wanted) → IsOfParts v → comm_in l e ≡ n.comm → Distinct (members n) → n.me ≡ p → has_place n.comm p ≡ true → j < size n → proc_at n j ≡ x
+    → ((q : ℕ) (u : Wanted) → l.entered e k q ≡ Some u → EntryAt job l e k u) → l.entered e k p ≡ Some v → (values : List ℤ) → IsPart l e k x p values → (length values == due_from v (size n) (my_place n) j) ≡ true
+part_is_due job l e k n p x j v parts comm distinct own placed less at entries mine values given =
+    ap (λ (o : List ℤ). length o == due_from v (size n) (my_place n) j) given.are
+    ∙ parts_due v given.asked parts (entered_alike job l e k given.asked v theirs ours) (entered_as_long job l e k v given.asked ours theirs) (comm_in l e) x p (size n) (my_place n) j
+    (ap (λ (seats : List Seat). length seats) comm) (ap (λ (seats : List Seat). place_of seats p) comm ∙ ap (seat_of (members n)) (sym own)) there below less
+  where
+    ours : EntryAt job l e k v
+    ours = entries p v mine
+
+    theirs : EntryAt job l e k given.asked
+    theirs = entries x given.asked given.at
+
+    long : length (members n) ≡ size n
+    long = same_length n.comm
+
+    there : place_of (comm_in l e) x ≡ j
+    there = ap (λ (seats : List Seat). place_of seats x) comm ∙ ap (seat_of (members n)) (sym at) ∙ ((names_seats (members n) distinct).process j (omega (arith, less, long))).1
+
+    below : my_place n < size n
+    below = let seat = (seat_found (members n) p (places.has_seat n.comm p ∙ placed)).0 in let mine = ap (seat_of (members n)) own in omega (arith, seat, long, mine)
 
 -- a process that left is named where its place has no part
 pub record NoPart (n : Node) (v : Wanted) (q : ℕ) : Type 0 where

@@ -91,6 +91,20 @@ pub only_is : {X : Type 0} (test : X → Bool) (o : Option X) (y : X) → only t
 only_is test None y e = absurd (let bad : None ≡ Some y = e in cc)
 only_is test (Some x) y e = ap Some (given_is (test x) x y e).1
 
+only_passes : (test : List ℤ → Bool) (x : Option (List ℤ)) (y : List ℤ) → only test x ≡ Some y → test y ≡ true
+only_passes test None y e = absurd (let bad : None ≡ Some y = e in cc)
+only_passes test (Some x) y e = let r = given_is (test x) x y e in ap test (sym r.1) ∙ r.0
+
+-- a part that is read passes the test
+pub part_passes : (test : List ℤ → Bool) (e k : ℕ) (ts : List Text) (values : List ℤ) → first_read (λ t. only test (part_in e k t)) ts ≡ Some values → test values ≡ true
+part_passes test e k [] values is = absurd (let bad : None ≡ Some values = is in cc)
+part_passes test e k (t ∷ ts) values is = either (part_passes test e k ts values) (only test (part_in e k t)) refl is
+  where
+    either : (first_read (λ t. only test (part_in e k t)) ts ≡ Some values → test values ≡ true) → (o : Option (List ℤ)) → only test (part_in e k t) ≡ o
+        → option_or o (first_read (λ t. only test (part_in e k t)) ts) ≡ Some values → test values ≡ true
+    either later None same is = later is
+    either later (Some vs) same is = only_passes test (part_in e k t) values (same ∙ is)
+
 pub part_found : (l : Ledger) (e k a b : ℕ) (test : List ℤ → Bool) (ts : List Text) (values : List ℤ) → Each (TruePart l a b) ts → first_read (λ t. only test (part_in e k t)) ts ≡ Some values
     → IsPart l e k a b values
 part_found l e k a b test [] values all is = absurd (let bad : None ≡ Some values = is in cc)
@@ -135,6 +149,25 @@ source_back n by y less =
     split = grind arith
 
     sum : (y + (n - by % n)) + by ≡ y + n * (1 + by / n)
+    sum = omega (arith, below, parts, split)
+
+pub target_back : (n by x : ℕ) → x < n → source_of n by (target_of n by x) ≡ x
+target_back n by x less =
+    mod-add-mod (x + by) n (n - by % n)
+    ∙ ap (λ (k : ℕ). k % n) sum
+    ∙ add-mul-mod_self_left x n (1 + by / n)
+    ∙ mod-eq_of_lt less
+  where
+    below : by % n < n
+    below = mod-lt by (omega (arith, less))
+
+    parts : by % n + n * (by / n) ≡ by
+    parts = mod-add-div by n
+
+    split : n * (1 + by / n) ≡ n + n * (by / n)
+    split = grind arith
+
+    sum : (x + by) + (n - by % n) ≡ x + n * (1 + by / n)
     sum = omega (arith, below, parts, split)
 
 pub source_below : (n by y : ℕ) → y < n → source_of n by y < n

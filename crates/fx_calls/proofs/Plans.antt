@@ -1,16 +1,18 @@
 -- What all ranks have left of their walks, epoch by epoch and call by call, by what was entered so far.
 use Rattle.std.proofs.Common.{◌≡◌, ℕ, zero, suc, true, false, List, [], ◌∷◌, map, length, Option, Some, None, refl, ap, sym, subst, ◌∙◌}
-use Rattle.std.specs.Prelude.{ℤ, is_some}
+use Rattle.std.specs.Prelude.{ℤ, is_some, get_or}
 use Rattle.fx_check.specs.Facts.{facts_of}
 use Rattle.fx_comm.specs.Seats.{Seat}
+use Rattle.fx_script.specs.declared.job.Decl.{Decl}
 use Rattle.fx_script.specs.declared.job.Job.{Job}
 use Rattle.fx_link.specs.declared.slot.Slot.{Slot}
 use Rattle.fx_walk.specs.declared.wanted.Wanted.{Wanted}
+use Rattle.fx_walk.specs.declared.wanted.Wanted.TheVariants as wanted
 use Rattle.fx_walk.specs.Callbacks.{no_latest}
 use Rattle.fx_walk.specs.InStep.{job_walk, job_plan}
 use Rattle.fx_walk.specs.declared.action.View.{View}
 use Rattle.fx_walk.specs.Plan.{shared_of, Common, Reduce, Agree, common_of, Plan, Stops, Meets, Keeps}
-use Rattle.fx_walk.specs.State.{State, zero_counters}
+use Rattle.fx_walk.specs.State.{State, zero_arrays, zero_counters}
 use Rattle.fx_walk.specs.Values.{reduced}
 use Rattle.fx_legal.specs.Calls.{AllAsked, own_number, common_bits}
 use Rattle.fx_legal.specs.Ledger.{Chapter, Ledger, comm_in, comm_of}
@@ -29,7 +31,7 @@ number_due other numbers = None
 
 abbrev pub IsBehind : Plan → List ℤ → Plan → Type 0
 IsBehind (Stops counters) numbers u = ⊥
-IsBehind (Meets spot common counters rest) numbers u = u ≡ rest (number_due common numbers) no_latest
+IsBehind (Meets spot common source counters rest) numbers u = u ≡ rest (number_due common numbers) no_latest
 
 -- what the processes of these seats entered a call with
 abbrev pub numbers_of : (ℕ → Option Wanted) → List Seat → List ℤ
@@ -43,14 +45,14 @@ PlanAt job l e (suc k) u = (before : Plan) × PlanAt job l e k before × AllAske
 -- the plan meets this statement next
 abbrev pub MeetsIt : Plan → Common → Type 0
 MeetsIt (Stops counters) c = ⊥
-MeetsIt (Meets spot common counters rest) c = common ≡ c
+MeetsIt (Meets spot common source counters rest) c = common ≡ c
 
 pub same_behind : (a b : Plan) → a ≡ b → (numbers : List ℤ) (u v : Plan) → IsBehind a numbers u → IsBehind b numbers v → u ≡ v
 same_behind a b same numbers u v x y = of b (subst (λ (o : Plan). IsBehind o numbers u) same x) y
   where
     of : (b : Plan) → IsBehind b numbers u → IsBehind b numbers v → u ≡ v
     of (Stops counters) x y = absurd x
-    of (Meets spot common counters rest) x y = x ∙ sym y
+    of (Meets spot common source counters rest) x y = x ∙ sym y
 
 pub plan_same : (job : Job) (l : Ledger) (e k : ℕ) (u v : Plan) → PlanAt job l e k u → PlanAt job l e k v → u ≡ v
 plan_same job l e zero u v x y = x.1 ∙ sym y.1
@@ -61,7 +63,7 @@ met_same a b c d same x y = of b (subst (λ (o : Plan). MeetsIt o c) same x) y
   where
     of : (b : Plan) → MeetsIt b c → MeetsIt b d → c ≡ d
     of (Stops counters) x y = absurd x
-    of (Meets spot common counters rest) x y = sym x ∙ y
+    of (Meets spot common source counters rest) x y = sym x ∙ y
 
 pub has_begun : (job : Job) (l : Ledger) (e k : ℕ) (u : Plan) → PlanAt job l e k u → is_some (l.chapters e) ≡ true
 has_begun job l e zero u x = x.0
@@ -115,11 +117,22 @@ plan_grows job l m g e (suc k) u x =
 
 -- ---- entries
 
+-- how long the array is declared that the plan gives away next
+abbrev pub given_length : List Decl → Plan → ℕ
+given_length names (Meets spot common (Some slot) counters rest) = length (get_or (zero_arrays names) slot [])
+given_length names other = 0
+
+-- a shift gives away so many elements
+abbrev pub IsOfLength : ℕ → Wanted → Type 0
+IsOfLength len (wanted.Shift by elements) = length elements ≡ len
+IsOfLength len other = Unit {0}
+
 -- behind so many calls of an epoch the plan meets what was entered
 pub record IsEntry (job : Job) (l : Ledger) (e k : ℕ) (v : Wanted) : Type 0 where
   pub before : Plan
   pub at : PlanAt job l e k before
   pub meets : MeetsIt before (common_of v)
+  pub long : IsOfLength (given_length job.names before) v
 
 abbrev pub EntryAt : Job → Ledger → (e k : ℕ) → Wanted → Type 0
 EntryAt job l e zero v = ⊥
@@ -127,12 +140,24 @@ EntryAt job l e (suc k) v = IsEntry job l e k v
 
 pub entry_grows : (job : Job) (l m : Ledger) → Grows l m → (e k : ℕ) (v : Wanted) → EntryAt job l e k v → EntryAt job m e k v
 entry_grows job l m g e zero v x = x
-entry_grows job l m g e (suc k) v x = record { before = x.before; at = plan_grows job l m g e k x.before x.at; meets = x.meets }
+entry_grows job l m g e (suc k) v x = record { before = x.before; at = plan_grows job l m g e k x.before x.at; meets = x.meets; long = x.long }
 
 -- two that entered a call entered it alike
 pub entered_alike : (job : Job) (l : Ledger) (e k : ℕ) (v w : Wanted) → EntryAt job l e k v → EntryAt job l e k w → common_of v ≡ common_of w
 entered_alike job l e zero v w x y = absurd x
 entered_alike job l e (suc k) v w x y = met_same x.before y.before (common_of v) (common_of w) (plan_same job l e k x.before y.before x.at y.at) x.meets y.meets
+
+-- two shifts give away as many elements
+abbrev pub AsLong : Wanted → Wanted → Type 0
+AsLong (wanted.Shift by own) (wanted.Shift other theirs) = length theirs ≡ length own
+AsLong v u = Unit {0}
+
+-- two that entered a call do
+pub entered_as_long : (job : Job) (l : Ledger) (e k : ℕ) (v u : Wanted) → EntryAt job l e k v → EntryAt job l e k u → AsLong v u
+entered_as_long job l e zero v u x y = absurd x
+entered_as_long job l e (suc k) (wanted.Shift by own) (wanted.Shift other theirs) x y =
+    y.long ∙ ap (λ (u : Plan). given_length job.names u) (plan_same job l e k y.before x.before y.at x.at) ∙ sym x.long
+entered_as_long job l e (suc k) v u x y = tt
 
 -- the walk of the body keeps to the plan of what all ranks see alike
 abbrev pub HavePlans : Job → Type 0

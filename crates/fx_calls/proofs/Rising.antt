@@ -1,16 +1,17 @@
--- In the run of a job whose body asks nothing but barriers and reductions nobody falls back, whoever acts comes further, and nobody comes further than the last epoch.
-use Rattle.std.proofs.Common.{◌≡◌, ◌≤◌, inl, inr, ℕ, suc, ◌+◌, ◌*◌, Bool, true, false, List, ◌∷◌, Some, arith, refl, sym, ap, subst, ◌∙◌}
+-- In the run of a job whose body asks nothing but barriers, reductions and agreements nobody falls back, whoever acts comes further, and nobody comes further than the last epoch.
+use Rattle.std.proofs.Common.{◌≡◌, ◌≤◌, inl, inr, ℕ, suc, ◌+◌, ◌*◌, Bool, true, false, List, ◌∷◌, length, Some, arith, refl, sym, ap, subst, ◌∙◌}
 use Rattle.std.specs.Prelude.{is_some}
 use Rattle.std.proofs.lemmas.Bool.{cases_eq}
-use Rattle.fx_ballot.specs.Turn.{Phase}
 use Rattle.fx_ballot.specs.World.{put}
+use Rattle.fx_check.specs.Acceptance.{IsAccepted}
+use Rattle.fx_check.proofs.PartLemmas.{by_parts}
 use Rattle.fx_check.specs.Parts.{KeepsByParts}
 use Rattle.fx_check.specs.Work.{work_of}
 use Rattle.fx_item.specs.declared.item.Item.{Item}
 use Rattle.fx_item.specs.declared.item.Item.TheVariants as item
 use Rattle.fx_script.specs.declared.job.Job.{Job}
 use Rattle.fx_machine.specs.Messages.{message_of}
-use Rattle.fx_machine.specs.Nodes.{Node, Act, Stage, Calling, Balloting, receives, is_told, first_node}
+use Rattle.fx_machine.specs.Nodes.{Node, Act, members, receives, is_told, first_node}
 use Rattle.fx_machine.specs.Numbers.{proc}
 use Rattle.fx_machine.specs.Setup.{Setup}
 use Rattle.fx_machine.specs.Steps.{next}
@@ -18,30 +19,36 @@ use Rattle.fx_deeds.proofs.Every.{is_deed}
 use Rattle.fx_fleet.specs.Runs.{job_setup}
 use Rattle.fx_fleet.specs.World.{World, up, does, receives_front, learns, loses}
 use Rattle.fx_calm.proofs.Standing.{noted}
+use Rattle.fx_comm.specs.Seats.{Seat}
 use Rattle.fx_legal.specs.Effects.{written}
 use Rattle.fx_legal.specs.Legal.{ledger_of}
 use Rattle.fx_losses.specs.Eras.{era_of}
 use Rattle.fx_losses.proofs.Moments.{IsKeptAlong}
 use Rattle.fx_losses.proofs.Shows.{up_parts}
+use Rattle.fx_losses.proofs.Sizes.{legal_sized}
 use Rattle.fx_losses.proofs.Texts.{put_same, put_other}
-use Rattle.fx_calls.specs.Bodies.{IsOfSums, OnlyAsks, AsksSums}
-use Rattle.fx_calls.proofs.Causes.{Caused, SumsAt}
-use Rattle.fx_calls.proofs.Causing.{no_ballot}
+use Rattle.fx_calls.specs.Bodies.{AsksNoGroups}
+use Rattle.fx_calls.proofs.Causes.{Caused}
 use Rattle.fx_calls.proofs.Counts.{epochs_few, members_few}
 use Rattle.fx_calls.proofs.Hearing.{same_journal}
 use Rattle.fx_calls.proofs.Heights.{all_epochs, HasCome, come_few, come_less, deed_rises}
 use Rattle.fx_calls.proofs.Lapses.{HaveLapses, lapses_grow, step_lapses}
 use Rattle.fx_calls.proofs.Losing.{ledger_now, grows}
-use Rattle.fx_calls.proofs.Losses.{kept_caused}
+use Rattle.fx_calls.proofs.Legally.{Legally}
+use Rattle.fx_calls.proofs.Linked.{own_chapter}
+use Rattle.fx_calls.proofs.Losses.{kept_so}
 use Rattle.fx_calls.proofs.Plans.{HavePlans}
-use Rattle.fx_calls.proofs.Standing.{OfStage, InCall}
-use Rattle.fx_calls.proofs.Stepped.{AtPlan}
+use Rattle.fx_calls.proofs.Places.{same_length}
 
--- a job whose body asks nothing but barriers and reductions, in step
-pub record Summing (job : Job) : Type 0 where
+-- an accepted job whose body asks nothing of data groups, in step
+pub record Asking (job : Job) : Type 0 where
+  pub accepted : IsAccepted job
   pub rules : KeepsByParts job
   pub planned : HavePlans job
-  pub asks : AsksSums job
+  pub asks : AsksNoGroups job
+
+pub asking : (job : Job) → IsAccepted job → HavePlans job → AsksNoGroups job → Asking job
+asking job is planned asks = record { accepted = is; rules = by_parts job is; planned = planned; asks = asks }
 
 -- one more for one of them
 abbrev pub one_more : ℕ → (ℕ → ℕ) → ℕ → ℕ
@@ -53,6 +60,19 @@ no_less q f o = elim (cases_eq o q) [
   | inr ne ↦ subst (λ (i : ℕ). f o ≤ i) (sym (put_other f q o (suc (f q)) ne)) (omega arith)
 ]
 
+-- as far as anybody comes
+abbrev pub top : Job → ℕ
+top job = all_epochs (work_of job.body) (job_setup job).procs (suc (2 * (job_setup job).procs + 1))
+
+-- no more than all processes have a place
+places_few : (job : Job) → IsAccepted job → (ps : List ℕ) (w : World) → Legally job ps w → (p : ℕ) → w.killed p ≡ false → length (members (w.node p)) ≤ (job_setup job).procs
+places_few job accepted ps w is p living =
+    let y = own_chapter job w is.worlds is.fate (ledger_of job (noted w.items)) p is.shows is.linked living in
+    let size = ((legal_sized job accepted (noted w.items) is.goes).each (w.node p).epoch y.chapter y.at).size in
+    let same : length y.chapter.comm ≡ length (w.node p).comm = ap (λ (c : List Seat). length c) (sym y.like.comm) in
+    let long = same_length (w.node p).comm in
+    omega (arith, size, same, long)
+
 module _ (job : Job) where
   abbrev s : Setup
   s = job_setup job
@@ -63,10 +83,6 @@ module _ (job : Job) where
   abbrev procs : ℕ
   procs = (job_setup job).procs
 
-  -- as far as anybody comes
-  abbrev pub top : ℕ
-  top = all_epochs (work_of job.body) (job_setup job).procs (suc (2 * (job_setup job).procs + 1))
-
   pub record Good (ps : List ℕ) (w : World) : Type 0 where
     pub caused : Caused job ps w
     pub lapses : HaveLapses (ledger_of job (noted w.items))
@@ -76,7 +92,7 @@ module _ (job : Job) where
 
   -- a process has come at least so far; who was killed is at the end
   pub record ComesTo (w : World) (q far : ℕ) : Type 0 where
-    pub dead : w.killed q ≡ true → far ≤ top
+    pub dead : w.killed q ≡ true → far ≤ top job
     pub alive : w.killed q ≡ false → HasCome (work_of job.body) (job_setup job).procs (w.node q).epoch (w.node q).stage (w.node q).walk far
 
   -- each has come at least as far as these numbers say
@@ -94,35 +110,28 @@ module _ (job : Job) where
       let x = is.caused.legally in
       epochs_few job w x.worlds x.fate (ledger_of job (noted w.items)) x.shows x.linked is.lapses (w.node q).epoch (era_of (w.node q)) (x.shows.here q lives)
 
-  pub comes_few : (ps : List ℕ) (w : World) → Good ps w → (q far : ℕ) → ComesTo w q far → far ≤ top
+  pub comes_few : (ps : List ℕ) (w : World) → Good ps w → (q far : ℕ) → ComesTo w q far → far ≤ top job
   comes_few ps w is q far c = of (w.killed q) refl
     where
-      of : (b : Bool) → w.killed q ≡ b → far ≤ top
+      of : (b : Bool) → w.killed q ≡ b → far ≤ top job
       of true e = c.dead e
       of false e = come_few work procs (w.node q).epoch (w.node q).stage (w.node q).walk far (2 * procs + 1) (c.alive e) (epoch_few ps w is q e)
 
   -- ---- a step
 
-  module _ (sums : Summing job) (ps : List ℕ) (p : ℕ) (w : World) (act : Act) (on : up (job_setup job) w p ≡ true) (e : next (job_setup job) (w.node p) ≡ Some act) (is : Good ps w) where
+  module _ (asking : Asking job) (ps : List ℕ) (p : ℕ) (w : World) (act : Act) (on : up (job_setup job) w p ≡ true) (e : next (job_setup job) (w.node p) ≡ Some act) (is : Good ps w) where
     living : w.killed p ≡ false
     living = (up_parts s w p on).1
 
-    -- what it asks is no ballot
-    calm : (phase : Phase) → (w.node p).stage ≡ Calling (Balloting phase) → ⊥
-    calm phase at =
-        let call : InCall ((ledger_of job (noted w.items)).stands p) (w.node p) = subst (OfStage job ((ledger_of job (noted w.items)).stands p) (w.node p)) at (is.caused.legally.linked.stands p living) in
-        no_ballot call.asked phase (subst (OnlyAsks IsOfSums) call.walk (subst (λ (a : Stage). SumsAt a (w.node p).walk) at (is.caused.causes.sums p living))).0
-        ((subst (AtPlan job (ledger_of job (noted w.items)) p (w.node p)) at (is.caused.legally.stepped.nodes p living).at).fits call.place call.asked call.state call.rest call.walk)
-
     rises : (far : ℕ) → NodeComes far (w.node p) → NodeComes (suc far) act.node
     rises far has =
-        deed_rises job (w.node p) (is.caused.causes.sums p living) calm
-        (members_few s is.caused.legally.fate (w.node p).epoch (era_of (w.node p)) (is.caused.legally.shows.here p living)) far has act (is_deed s (w.node p) act e)
+        deed_rises job (w.node p) (is.caused.causes.asks p living)
+        (members_few s is.caused.legally.fate (w.node p).epoch (era_of (w.node p)) (is.caused.legally.shows.here p living)) (places_few job asking.accepted ps w is.caused.legally p living) far has act (is_deed s (w.node p) act e)
 
     acts_good : Good ps (does (job_setup job) p act w)
     acts_good =
-        let later : Caused job ps (does s p act w) = (kept_caused job sums.rules sums.planned sums.asks).acts ps p w act on e is.caused in
-        record { caused = later; lapses = step_lapses job sums.rules sums.planned sums.asks ps p w act on e is.caused later is.lapses }
+        let later : Caused job ps (does s p act w) = (kept_so job asking.rules asking.planned asking.asks).acts ps p w act on e is.caused in
+        record { caused = later; lapses = step_lapses job asking.rules asking.planned asking.asks ps p w act on e is.caused later is.lapses }
 
     acts_come : (f : ℕ → ℕ) → ((q : ℕ) → ComesTo w q (f q)) → (q : ℕ) → ComesTo (does (job_setup job) p act w) q (one_more p f q)
     acts_come f come q = elim (cases_eq q p) [
@@ -178,11 +187,11 @@ module _ (job : Job) where
   -- ---- what is kept
 
   -- nobody falls back
-  pub far_kept : Summing job → (f : ℕ → ℕ) → IsKeptAlong (job_setup job) (Far f)
-  far_kept sums f =
-      let k = kept_caused job sums.rules sums.planned sums.asks in
+  pub far_kept : Asking job → (f : ℕ → ℕ) → IsKeptAlong (job_setup job) (Far f)
+  far_kept asking f =
+      let k = kept_so job asking.rules asking.planned asking.asks in
       record {
-        acts = λ ps p w act on e is. acts_far sums ps p w act on e is.0 f is.1;
+        acts = λ ps p w act on e is. acts_far asking ps p w act on e is.0 f is.1;
         hears = λ ps p q t rest w on e is. (
           record { caused = k.hears ps p q t rest w on e is.0.caused; lapses = same_lapses w (receives_front p q (t ∷ rest) w) (same_journal w.items (item.Deliver (proc p) (proc q) (message_of t)) refl) is.0.lapses },
           λ o. hears_come w (receives_front p q (t ∷ rest) w) q (receives p t (w.node q)) (λ far c. c) (λ i. refl) (λ i. refl) o (f o) (is.1 o),

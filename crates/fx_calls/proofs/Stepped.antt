@@ -1,12 +1,16 @@
 -- All processes of an epoch walk in step: each node has what the plan has left behind as many calls as it made.
-use Rattle.std.proofs.Common.{◌≡◌, ◌≢◌, ◌⊎◌, ℕ, ◌<◌, ◌≤◌, suc, Bool, true, false, List, [], ◌∷◌, map, length, Option, Some, inl, inr, refl, ap, sym, subst, ◌∙◌}
+use Rattle.std.proofs.Common.{◌≡◌, ◌≢◌, ◌⊎◌, ℕ, ◌<◌, ◌≤◌, suc, Bool, true, false, List, [], ◌∷◌, map, length, Option, Some, None, inl, inr, refl, ap, sym, subst, ◌∙◌}
 use Rattle.std.specs.Prelude.{ℤ, negsuc, replicate, if◌then◌else◌}
 use Rattle.std.proofs.lemmas.Bool.{cases_eq}
+use Rattle.fx_base.specs.declared.spot.Spot.{Spot}
+use Rattle.fx_script.specs.declared.job.Decl.{Decl}
 use Rattle.fx_script.specs.declared.job.Job.{Job}
+use Rattle.fx_value.specs.Shape.{IsShaped, StaysShaped}
+use Rattle.fx_value.proofs.Shapes.{shaped_length}
 use Rattle.fx_walk.specs.declared.wanted.Wanted.{Wanted}
 use Rattle.fx_walk.specs.declared.wanted.Wanted.TheVariants as wanted
 use Rattle.fx_walk.specs.Callbacks.{no_latest}
-use Rattle.fx_walk.specs.Plan.{Common, common_of, number_set, Plan, Stops, Meets, Keeps, AsksBy}
+use Rattle.fx_walk.specs.Plan.{Common, common_of, number_set, Plan, Stops, Meets, Keeps, AsksBy, GivesFrom}
 use Rattle.fx_walk.specs.State.{State}
 use Rattle.fx_walk.specs.Walk.{TextPlace, Walk, Asks, Reply, Given}
 use Rattle.fx_machine.specs.Groups.{Group, newest_stamp}
@@ -20,7 +24,7 @@ use Rattle.fx_legal.specs.Ledger.{Ledger, newest_or_none, latest_of, all_latest}
 use Rattle.fx_legal.specs.Stands.{Stay}
 use Rattle.fx_losses.proofs.Moves.{each_node}
 use Rattle.fx_calls.specs.Bodies.{IsOfNoGroup, OnlyAsks}
-use Rattle.fx_calls.proofs.Plans.{PlanAt, IsBehind, MeetsIt, number_due, Grows, EntryAt, plan_grows, entry_grows}
+use Rattle.fx_calls.proofs.Plans.{PlanAt, IsBehind, MeetsIt, IsOfLength, number_due, given_length, Grows, EntryAt, plan_grows, entry_grows}
 
 -- what is left of a walk behind so many calls
 pub record Keeping (job : Job) (l : Ledger) (n : Node) (k : ℕ) : Type 0 where
@@ -54,8 +58,10 @@ AtPlan job l q n (Calling core) = Inside job l q n core
 AtPlan job l q n Failed = Unit {0}
 AtPlan job l q n Over = Unit {0}
 
--- a node whose process lives: no group of it is created, and it entered no later call than its own
+-- a node whose process lives: its walk stops in states of the declared shape, no group of it is created, and it entered no later
+-- call than its own
 pub record InStep (job : Job) (l : Ledger) (q : ℕ) (n : Node) : Type 0 where
+  pub shaped : StaysShaped job.names n.walk
   pub uncreated : (g : ℕ) → (n.groups g).created ≡ false
   pub past : (e k : ℕ) (v : Wanted) → l.entered e k q ≡ Some v → (e < n.epoch) ⊎ ((e ≡ n.epoch) × (k ≤ n.calls))
   pub at : AtPlan job l q n n.stage
@@ -87,6 +93,7 @@ plan_grows_at job l m g q n Over h = tt
 -- where the process itself entered nothing more
 pub step_grows : (job : Job) (l m : Ledger) → Grows l m → (q : ℕ) → ((e k : ℕ) → m.entered e k q ≡ l.entered e k q) → (n : Node) → InStep job l q n → InStep job m q n
 step_grows job l m g q same n h = record {
+  shaped = h.shaped;
   uncreated = h.uncreated;
   past = λ e k v is. h.past e k v (sym (same e k) ∙ is);
   at = plan_grows_at job l m g q n n.stage h.at;
@@ -94,7 +101,7 @@ step_grows job l m g q same n h = record {
 
 -- and it is in step as before
 pub still_in_step : (job : Job) (l : Ledger) (q : ℕ) (n : Node) (texts : ℕ → List Text) (lost : ℕ → Bool) → InStep job l q n → InStep job l q (record n { texts = texts; lost = lost })
-still_in_step job l q n texts lost is = record { uncreated = is.uncreated; past = is.past; at = of n.stage is.at }
+still_in_step job l q n texts lost is = record { shaped = is.shaped; uncreated = is.uncreated; past = is.past; at = of n.stage is.at }
   where
     of : (a : Stage) → AtPlan job l q n a → AtPlan job l q (record n { texts = texts; lost = lost }) a
     of Begins h = tt
@@ -160,7 +167,7 @@ ledger_latest groups stay none = all (0 ∷ 1 ∷ 2 ∷ 3 ∷ 4 ∷ 5 ∷ 6 ∷ 
 -- ---- what a statement is to the plan
 
 in_no_when : (v : Wanted) → IsOfNoGroup v → (b : Bool) (plan : Plan) (place : TextPlace) (state : State) (rest : Reply → Walk)
-    → AsksBy b plan place.spot (common_of v) state no_latest (λ left reply. Keeps (rest reply) left reply.latest) → AsksBy false plan place.spot (common_of v) state no_latest (λ left reply. Keeps (rest reply) left reply.latest)
+    → AsksBy b plan place.spot v state no_latest (λ left reply. Keeps (rest reply) left reply.latest) → AsksBy false plan place.spot v state no_latest (λ left reply. Keeps (rest reply) left reply.latest)
 in_no_when v is false plan place state rest h = h
 in_no_when wanted.Barrier is true plan place state rest h = absurd (let bad : false ≡ true = h.0 in cc)
 in_no_when (wanted.Reduce op own) is true plan place state rest h = absurd (let bad : false ≡ true = h.0 in cc)
@@ -178,9 +185,32 @@ in_no_when (wanted.Delete g stamp) is true plan place state rest h = absurd is
 pub meets_next : (place : TextPlace) (v : Wanted) (state : State) (rest : Reply → Walk) (plan : Plan) → IsOfNoGroup v → Keeps (Asks place v state rest) plan no_latest → MeetsIt plan (common_of v)
 meets_next place v state rest plan is keeps = of plan (in_no_when v is place.in_when plan place state rest keeps)
   where
-    of : (plan : Plan) → AsksBy false plan place.spot (common_of v) state no_latest (λ left reply. Keeps (rest reply) left reply.latest) → MeetsIt plan (common_of v)
+    of : (plan : Plan) → AsksBy false plan place.spot v state no_latest (λ left reply. Keeps (rest reply) left reply.latest) → MeetsIt plan (common_of v)
     of (Stops counters) h = absurd h
-    of (Meets at due counters left) h = sym h.1
+    of (Meets at due source counters left) h = sym h.1
+
+-- and a shift gives away as many elements as are declared
+pub gives_next : (names : List Decl) (place : TextPlace) (v : Wanted) (state : State) (rest : Reply → Walk) (plan : Plan) → IsOfNoGroup v → IsShaped names state → Keeps (Asks place v state rest) plan no_latest
+    → IsOfLength (given_length names plan) v
+gives_next names place v state rest plan is shaped keeps = of plan (in_no_when v is place.in_when plan place state rest keeps)
+  where
+    long : (source : Option ℕ) (v : Wanted) (spot : Spot) (common : Common) (counters : List ℤ) (left : Option ℤ → List ℤ → Plan) → GivesFrom source v state → IsOfLength (given_length names (Meets spot common source counters left)) v
+    long (Some slot) (wanted.Shift by elements) spot common counters left gives = ap (λ (xs : List ℤ). length xs) gives ∙ shaped_length names state slot shaped
+    long None (wanted.Shift by elements) spot common counters left gives = absurd gives
+    long source wanted.Barrier spot common counters left gives = tt
+    long source (wanted.Reduce op own) spot common counters left gives = tt
+    long source (wanted.Agree flag) spot common counters left gives = tt
+    long source (wanted.Group g start depth) spot common counters left gives = tt
+    long source (wanted.Attach g m) spot common counters left gives = tt
+    long source (wanted.Store g m piece) spot common counters left gives = tt
+    long source (wanted.Commit g) spot common counters left gives = tt
+    long source (wanted.Close g) spot common counters left gives = tt
+    long source (wanted.Restore g m stamp) spot common counters left gives = tt
+    long source (wanted.Delete g stamp) spot common counters left gives = tt
+
+    of : (plan : Plan) → AsksBy false plan place.spot v state no_latest (λ left reply. Keeps (rest reply) left reply.latest) → IsOfLength (given_length names plan) v
+    of (Stops counters) h = absurd h
+    of (Meets at due source counters left) h = long source v at due counters left h.3
 
 -- and what is left of both behind what it gives
 pub record Behind (rest : Reply → Walk) (given : Given) (plan : Plan) (numbers : List ℤ) : Type 0 where
@@ -192,10 +222,10 @@ pub keeps_behind : (place : TextPlace) (v : Wanted) (state : State) (rest : Repl
     → number_set (common_of v) given ≡ number_due (common_of v) numbers → Behind rest given plan numbers
 keeps_behind place v state rest plan given numbers is keeps set = of plan (in_no_when v is place.in_when plan place state rest keeps)
   where
-    of : (plan : Plan) → AsksBy false plan place.spot (common_of v) state no_latest (λ left reply. Keeps (rest reply) left reply.latest) → Behind rest given plan numbers
+    of : (plan : Plan) → AsksBy false plan place.spot v state no_latest (λ left reply. Keeps (rest reply) left reply.latest) → Behind rest given plan numbers
     of (Stops counters) h = absurd h
-    of (Meets at due counters left) h = record {
+    of (Meets at due source counters left) h = record {
       left = left (number_set (common_of v) given) no_latest;
       behind = ap (λ (o : Option ℤ). left o no_latest) (set ∙ ap (λ (c : Common). number_due c numbers) h.1);
-      keeps = h.3 (record { given = given; latest = no_latest });
+      keeps = h.4 (record { given = given; latest = no_latest });
     }

@@ -1,4 +1,4 @@
--- No processes wait for one another for ever whose bodies ask nothing but barriers and reductions: where nothing is under way, all losses are told and all are quiet, each has ended.
+-- No processes wait for one another for ever whose bodies ask nothing but barriers, reductions and agreements: where nothing is under way, all losses are told and all are quiet, each has ended.
 use Rattle.std.proofs.Common.{◌≡◌, ◌≢◌, ◌<◌, ◌≤◌, ◌⊎◌, inl, inr, ℕ, zero, suc, ◌==◌, Bool, true, false, ◌&&◌, ◌||◌, cond, List, [], ◌∷◌, ◌++◌, length, min, Option, Some, None, arith, refl, sym, ap, subst, ◌∙◌}
 use Rattle.std.specs.Prelude.{ℤ, if◌then◌else◌, not, nat_lt, is_some, is_none}
 use Rattle.std.specs.List.{list_any}
@@ -9,10 +9,13 @@ use Rattle.fx_ballot.specs.declared.heard.Heard.{Heard}
 use Rattle.fx_ballot.specs.declared.poll.Poll.TheVariants as poll
 use Rattle.fx_ballot.specs.Laws.{vote_of, past, AllEntered, Attentive, Unblocked}
 use Rattle.fx_ballot.specs.Names.{seat_at, seat_of, has}
-use Rattle.fx_ballot.specs.Turn.{Phase, Outside, Voting, Round, Decided, Message, Turn, turn, speak, follow, decide}
-use Rattle.fx_ballot.specs.World.{Member, is_outside, stays, among, turn_of}
+use Rattle.fx_ballot.specs.Seats.{NoVote, NoEstimate, Awaits}
+use Rattle.fx_ballot.specs.Turn.{Phase, Outside, Voting, Round, Decided, Message, Turn}
+use Rattle.fx_ballot.specs.World.{Member, is_outside, may_leave, stays, among, turn_of}
 use Rattle.fx_ballot.specs.World as ballot
+use Rattle.fx_ballot.proofs.Face.{Sound}
 use Rattle.fx_ballot.proofs.Names.{has_seat, names_apart, names_members, names_seats}
+use Rattle.fx_ballot.proofs.Readings.{turn_waits}
 use Rattle.fx_ballot.proofs.Trails.{hear_all}
 use Rattle.fx_ballot.proofs.Runs.{Kept}
 use Rattle.fx_ballot.proofs.Waiting.{clear_links_enable}
@@ -20,17 +23,19 @@ use Rattle.fx_comm.specs.Seats.{Seat, has_place}
 use Rattle.fx_link.specs.declared.slot.Slot.{Slot}
 use Rattle.fx_script.specs.declared.job.Job.{Job}
 use Rattle.fx_walk.specs.declared.wanted.Wanted.{Wanted}
+use Rattle.fx_walk.specs.declared.wanted.Wanted.TheVariants as wanted
 use Rattle.fx_walk.specs.Plan.{common_of}
 use Rattle.fx_walk.specs.State.{State}
 use Rattle.fx_walk.specs.Walk.{TextPlace, Walk, Asks, Reply}
 use Rattle.fx_machine.specs.Gathering.{own_part, part_of, due_from, are_gathered, gathering_error}
 use Rattle.fx_machine.specs.Nodes as nodes
-use Rattle.fx_machine.specs.Nodes.{Node, Stage, Joining, Arrived, Calling, Gathering, has_ended, members, size, proc_at, my_place}
+use Rattle.fx_machine.specs.Nodes.{Node, Stage, Core, Begins, Joining, Arrived, Walking, Calling, Failed, Over, Gathering, Sharing, Telling, Giving, Balloting, has_ended, members, size, proc_at, my_place}
 use Rattle.fx_machine.specs.Reading as reading
-use Rattle.fx_machine.specs.Reading.{only, first_read, part_in, next_ballot, turn_in, has_left}
+use Rattle.fx_machine.specs.Reading.{Ballot, only, first_read, part_in, next_ballot, seen, turn_in, has_left}
 use Rattle.fx_machine.specs.Setup.{Setup}
 use Rattle.fx_machine.specs.Steps.{may_help_out}
 use Rattle.fx_machine.specs.Texts.{Text}
+use Rattle.fx_machine.specs.Waits.{call_ballot}
 use Rattle.fx_fleet.specs.Runs.{job_setup}
 use Rattle.fx_fleet.specs.World.{World, up}
 use Rattle.fx_calm.proofs.Lists.{equal}
@@ -49,21 +54,27 @@ use Rattle.fx_losses.proofs.Moves.{some_era}
 use Rattle.fx_losses.proofs.Plays.{polled}
 use Rattle.fx_losses.proofs.Readings.{lost_heard, vote_shown, turn_shown}
 use Rattle.fx_losses.proofs.Shows.{phase_of, is_later, is_placed, is_decided, EndedAs, up_parts, now_at}
+use Rattle.fx_losses.proofs.Still.{place_of}
 use Rattle.fx_losses.proofs.Stuck.{no_next}
-use Rattle.fx_losses.proofs.Tests.{or_left, or_right, or_itself, first_of, both_true, less_is}
+use Rattle.fx_losses.proofs.Tests.{or_left, or_right, or_itself, first_of, second_of, both_true, less_is}
 use Rattle.fx_losses.proofs.Texts.{append_none, of_epoch, knowing, shown}
 use Rattle.fx_losses.proofs.Turns.{same_turn}
-use Rattle.fx_calls.specs.Bodies.{IsOfSums}
+use Rattle.fx_calls.specs.Bodies.{IsOfParts}
+use Rattle.fx_calls.proofs.Agreeing.{same_number, agreed, vote_reads, own_vote_reads, estimate_reads, sound_here}
 use Rattle.fx_calls.proofs.Causes.{Caused, asked_at}
-use Rattle.fx_calls.proofs.Delivered.{has_part}
+use Rattle.fx_calls.proofs.Causing.{agrees_so}
+use Rattle.fx_calls.proofs.Delivered.{has_part, stream}
 use Rattle.fx_calls.proofs.Legally.{Legally}
 use Rattle.fx_calls.proofs.Linked.{own_chapter}
-use Rattle.fx_calls.proofs.Missing.{part_readable, plan_before, sums_due, sums_parts}
+use Rattle.fx_calls.proofs.Missing.{part_readable, plan_before, part_is_due, parts_alike}
+use Rattle.fx_calls.proofs.Phases.{decided_inside, decided_past, left_past, not_outside, call_phase, balloting_at, is_in_call}
 use Rattle.fx_calls.proofs.Places as places
 use Rattle.fx_calls.proofs.Places.{era_apart, procs_distinct, same_length}
 use Rattle.fx_calls.proofs.Plans.{PlanAt, some_of, entered_alike}
+use Rattle.fx_calls.proofs.Polled.{NodePolls, is_balloting, in_poll}
+use Rattle.fx_calls.proofs.Sayings.{has_vote, has_estimate, seat_in}
 use Rattle.fx_calls.proofs.Stepped.{AtPlan, Inside}
-use Rattle.fx_calls.proofs.Stuck.{Stuck, Polls, Idles, Gathers, stuck, awaited, none_absent}
+use Rattle.fx_calls.proofs.Stuck.{Stuck, Polls, Idles, Gathers, Agrees, stuck, awaited, none_absent}
 
 -- ---- lists
 
@@ -105,36 +116,7 @@ those_some f (suc n) m less e = elim (cases_eq m n) [
     more [] ys i = absurd (omega (arith, i))
     more (x ∷ xs) ys i = omega arith
 
--- ---- phases
-
--- how far it is in the rounds
-abbrev pub place_of : Phase → ℕ
-place_of Outside = 0
-place_of Voting = 0
-place_of (Round r slots) = suc r
-place_of (Decided slots) = 0
-
-decided_inside : (phase : Phase) → is_decided phase ≡ true → is_outside phase ≡ false
-decided_inside Outside e = absurd (let bad : false ≡ true = e in cc)
-decided_inside Voting e = refl
-decided_inside (Round r slots) e = refl
-decided_inside (Decided slots) e = refl
-
-decided_past : (b : ℕ) (phase : Phase) → is_decided phase ≡ true → past b phase ≡ true
-decided_past b Outside e = absurd (let bad : false ≡ true = e in cc)
-decided_past b Voting e = absurd (let bad : false ≡ true = e in cc)
-decided_past b (Round r slots) e = absurd (let bad : false ≡ true = e in cc)
-decided_past b (Decided slots) e = refl
-
--- in its own round a member says its estimate
-own_round_goes : (n i : ℕ) (known : ℕ → Heard) (r : ℕ) (held : List Slot) → nat_lt r n ≡ true → (r == i) ≡ true → (turn n i known (Round r held)).poll ≡ poll.NotYet → ⊥
-own_round_goes n i known r held less same e =
-    let t : turn n i known (Round r held) ≡ speak r held =
-    cond-true {A = Turn} (nat_lt r n) _ (decide held) less ∙ cond-true {A = Turn} (r == i) (speak r held) (follow r held (known r).estimate ((known r).lost || (known r).left)) same in
-    let bad : poll.SendEstimate held ≡ poll.NotYet = ap (λ (x : Turn). x.poll) (sym t) ∙ e in cc
-
-same_number : (a b : ℕ) → a ≡ b → (a == b) ≡ true
-same_number a b e = grind (arith, nat_tests)
+-- ---- tests
 
 some_is : (o : Option Slot) → (o ≡ None → ⊥) → is_some o ≡ true
 some_is None h = absurd (h refl)
@@ -146,9 +128,12 @@ no_clash true mine o none = absurd (let bad : false ≡ true = none in cc)
 no_clash false mine None none = (λ i. let bad : false ≡ true = i in cc, λ i. let bad : false ≡ true = i in cc)
 no_clash false mine (Some x) none = absurd (let bad : false ≡ true = none in cc)
 
-abbrev is_in_call : Stage → Bool
-is_in_call (Calling core) = true
-is_in_call other = false
+-- one that is up in this epoch and has entered this call of it
+record Came (s : Setup) (w : World) (l : Ledger) (d k q : ℕ) : Type 0 where
+  pub there : up s w q ≡ true
+  pub epoch : (w.node q).epoch ≡ d
+  pub asked : Wanted
+  pub entered : l.entered d k q ≡ Some asked
 
 module _ (job : Job) (ps : List ℕ) (w : World) (caused : Caused job ps w) (small : (q : ℕ) → w.killed q ≡ false → (w.node q).epoch < 4294967295) (st : IsStill (job_setup job) w) where
   abbrev is : Legally job ps w
@@ -171,7 +156,7 @@ module _ (job : Job) (ps : List ℕ) (w : World) (caused : Caused job ps w) (sma
   stuck_at : (q : ℕ) → up s w q ≡ true → Stuck (w.node q)
   stuck_at q on =
       let k = up_parts s w q on in
-      stuck job l q (w.node q) (l.stands q) (less_is (w.node q).epoch 4294967295 (small q k.1)) k.2 (is.linked.stands q k.1) (is.stepped.nodes q k.1).at (caused.causes.sums q k.1) (no_next s w q on (st.quiet q on))
+      stuck job l q (w.node q) (l.stands q) (λ flag phase slots at. agreed job w z fate l is.polls q on is.shows is.linked is.polled flag phase at slots) (less_is (w.node q).epoch 4294967295 (small q k.1)) k.2 (is.linked.stands q k.1) (is.stepped.nodes q k.1).at (caused.causes.asks q k.1) (no_next s w q on (st.quiet q on))
 
   -- ---- what it has heard
 
@@ -208,10 +193,19 @@ module _ (job : Job) (ps : List ℕ) (w : World) (caused : Caused job ps w) (sma
   -- in its own round it would say its estimate
   own_round_not : (q : ℕ) → up s w q ≡ true → (o : ℕ) (held : List Slot) → (w.node q).stage ≡ Joining (Round o held) → (turn_in (next_ballot (w.node q)) (w.node q) (Round o held)).poll ≡ poll.NotYet → o ≡ seat_of (w.node q).present q → ⊥
   own_round_not q on o held stage yet same =
-      let seat = seat_here s w z fate q on is.shows in
-      own_round_goes (length (w.node q).present) (seat_of (w.node q).present q) (λ i. shown (suc (w.node q).epoch) (w.node q) (seat_at (w.node q).present i)) o held
-      (less_is o (length (w.node q).present) (subst (λ (m : ℕ). m < length (w.node q).present) (sym same) seat.0)) (same_number o (seat_of (w.node q).present q) same)
-      (ap (λ (x : Turn). x.poll) (sym (turn_shown s w z fate q on is.shows is.truthful (Round o held))) ∙ yet)
+      ((turn_waits (length (w.node q).present) (seat_of (w.node q).present q) (λ i. shown (suc (w.node q).epoch) (w.node q) (seat_at (w.node q).present i)) (Round o held)).0
+      (ap (λ (x : Turn). x.poll) (sym (turn_shown s w z fate q on is.shows is.truthful (Round o held))) ∙ yet)).1 same
+
+  own_call_round_not : (q : ℕ) → up s w q ≡ true → (o : ℕ) (held : List Slot) → (w.node q).stage ≡ Calling (Balloting (Round o held)) → o ≡ seat_of (members (w.node q)) q → ⊥
+  own_call_round_not q on o held at same = of (stuck_at q on)
+    where
+      of : Stuck (w.node q) → ⊥
+      of (Polls phase stage yet) = let bad : false ≡ true = sym (ap is_in_call stage) ∙ ap is_in_call at in cc
+      of (Idles stage place help) = let bad : false ≡ true = sym (ap is_in_call stage) ∙ ap is_in_call at in cc
+      of (Gathers place v state rest stage walk parts waiting calm) = let bad : false ≡ true = sym (ap is_balloting stage) ∙ ap is_balloting at in cc
+      of (Agrees place flag state rest phase stage walk yet) =
+          ((turn_waits (length (members (w.node q))) (seat_of (members (w.node q)) (w.node q).me) (λ i. seen (call_ballot (w.node q) (wanted.Agree flag)) (w.node q) (seat_at (members (w.node q)) i)) (Round o held)).0
+          (ap (λ (x : Phase). (turn_in (call_ballot (w.node q) (wanted.Agree flag)) (w.node q) x).poll) (ap call_phase (sym at ∙ stage)) ∙ yet)).1 (same ∙ ap (seat_of (members (w.node q))) (sym (is.shows.sane q (up_parts s w q on).1).me))
 
   -- ---- one epoch, before which nobody is up
 
@@ -289,117 +283,220 @@ module _ (job : Job) (ps : List ℕ) (w : World) (caused : Caused job ps w) (sma
     polls_inside : (q : ℕ) → up s w q ≡ true → (phase : Phase) → (w.node q).stage ≡ Joining phase → is_outside phase ≡ false
     polls_inside q up_q phase at = ((is.shows.sane q (up_parts s w q up_q).1).inside phase at).0
 
-    -- ---- a call in which somebody gathers, and nobody of the epoch in an earlier one
+    -- ---- a call, where nobody of the epoch is in an earlier one
 
-    module _ (place : TextPlace) (v : Wanted) (state : State) (rest : Reply → Walk) (at : n.stage ≡ Calling Gathering) (walk : n.walk ≡ Asks place v state rest) (sums : IsOfSums v) (waiting : are_gathered n v ≡ false)
-        (calm : gathering_error n v ≡ None) (first : (q : ℕ) → up s w q ≡ true → (w.node q).epoch ≡ d → (w.node q).stage ≡ Calling Gathering → (w.node q).calls < n.calls → ⊥) where
-      abbrev inside : Inside job l p n Gathering
+    comm_here : comm_in l d ≡ n.comm
+    comm_here = let y = own_chapter job w is.worlds is.fate l p is.shows is.linked k.1 in ap comm_of y.at ∙ sym y.like.comm
+
+    module _ (core : Core) (place : TextPlace) (v : Wanted) (state : State) (rest : Reply → Walk) (at : n.stage ≡ Calling core) (walk : n.walk ≡ Asks place v state rest)
+        (first : (q : ℕ) → up s w q ≡ true → (w.node q).epoch ≡ d → (theirs : Core) → (w.node q).stage ≡ Calling theirs → (w.node q).calls < n.calls → ⊥) where
+      abbrev inside : Inside job l p n core
       inside = subst (AtPlan job l p n) at (is.stepped.nodes p k.1).at
-
-      own : n.me ≡ p
-      own = (is.shows.sane p k.1).me
 
       entered : l.entered d n.calls p ≡ Some v
       entered = inside.entered place v state rest walk
 
-      missed : (x : ℕ) × (x < size n) × (is_none (part_of n v x) ≡ true)
-      missed = awaited n v waiting
-
-      -- whose part isn't there
-      abbrev missing : ℕ
-      missing = proc_at n missed.0
-
-      abbrev heard : Option (List ℤ)
-      heard = first_read (λ t. only (λ values. length values == due_from v (size n) (my_place n) missed.0) (part_in n.epoch n.calls t)) (n.texts missing)
-
-      neither : ((missed.0 == my_place n) ≡ true → ⊥) × (is_some (first_read (λ t. only (λ values. length values == due_from v (size n) (my_place n) missed.0) (part_in n.epoch n.calls t)) (n.texts missing)) ≡ true → ⊥)
-      neither = no_clash (missed.0 == my_place n) (own_part v) heard missed.2
-
-      absent : (n.lost missing ≡ true → ⊥) × (has_left n missing ≡ true → ⊥)
-      absent = none_absent n v missed.0 calm missed.1 missed.2
-
-      below : missed.0 < length (members n)
-      below = let less = missed.1 in let long = same_length n.comm in omega (arith, less, long)
-
-      missing_placed : has_place n.comm missing ≡ true
-      missing_placed = sym (places.has_seat n.comm missing) ∙ has_seat (members n) missed.0 below
+      alike : (u : Wanted) (q : ℕ) → l.entered d n.calls q ≡ Some u → common_of u ≡ common_of v
+      alike u q asked = entered_alike job l d n.calls u v (is.stepped.entries d n.calls q u asked) (is.stepped.entries d n.calls p v entered)
 
       has_own : has_place n.comm p ≡ true
       has_own = (is.shows.sane p k.1).placed (ap is_placed at)
 
-      missing_present : has n.present missing ≡ true
-      missing_present = era_places s fate d (era_of n) missing ((is.shows.sane p k.1).later (ap is_later at)) era_here missing_placed
+      seated : (c : ℕ) → c < length (members n) → has_place n.comm (proc_at n c) ≡ true
+      seated c low_seat = sym (places.has_seat n.comm (proc_at n c)) ∙ has_seat (members n) c low_seat
 
-      missing_below : missing < s.procs
-      missing_below = era_below s fate d (era_of n) missing era_here missing_present
+      seat_of_it : (c : ℕ) → c < length (members n) → seat_of (members n) (proc_at n c) ≡ c
+      seat_of_it c low_seat = ((names_seats (members n) (procs_distinct n.comm (era_apart s fate d (era_of n) era_here))).process c low_seat).1
 
-      apart : p ≢ missing
-      apart same =
-          let seats = names_seats (members n) (procs_distinct n.comm (era_apart s fate d (era_of n) era_here)) in
-          neither.0 (same_number missed.0 (my_place n) (sym (seats.process missed.0 below).1 ∙ ap (seat_of (members n)) (sym same ∙ sym own)))
+      present : (q : ℕ) → has_place n.comm q ≡ true → has n.present q ≡ true
+      present q placed = era_places s fate d (era_of n) q ((is.shows.sane p k.1).later (ap is_later at)) era_here placed
 
-      comm_here : comm_in l d ≡ n.comm
-      comm_here = let z = own_chapter job w is.worlds is.fate l p is.shows is.linked k.1 in ap comm_of z.at ∙ sym z.like.comm
+      below : (q : ℕ) → has_place n.comm q ≡ true → q < s.procs
+      below q placed = era_below s fate d (era_of n) q era_here (present q placed)
 
-      -- who entered the call has given its part
-      not_entered : w.killed missing ≡ false → (u : Wanted) → l.entered d n.calls missing ≡ Some u → ⊥
-      not_entered living u asked =
-          let line : w.link missing p ≡ [] = st.clear missing p missing_below (λ same. apart (sym same)) on in
-          let whole = is.delivered.there missing p d n.calls u living on (λ same. apart (sym same)) asked (sums_parts v u sums (alike u asked)) (ap (λ (seats : List Seat). has_place seats p) comm_here ∙ has_own) in
-          let there : has_part d n.calls (n.texts missing) ≡ true =
-          ap (has_part d n.calls) (sym (ap (λ (ts : List Text). n.texts missing ++ ts) line ∙ append_none (n.texts missing))) ∙ whole in
-          neither.1 (part_readable l d n.calls missing p (λ values. length values == due_from v (size n) (my_place n) missed.0) (n.texts missing) (is.spoken.texts p missing)
-          (λ values o. ap (λ (xs : List ℤ). length xs == due_from v (size n) (my_place n) missed.0) o.are ∙ sums_due v o.asked sums (alike o.asked o.at) (comm_in l d) missing p (size n) (my_place n) missed.0) there)
-        where
-          alike : (u : Wanted) → l.entered d n.calls missing ≡ Some u → common_of u ≡ common_of v
-          alike u asked = entered_alike job l d n.calls u v (is.stepped.entries d n.calls missing u asked) (is.stepped.entries d n.calls p v entered)
-
-      -- it has entered the call if it is in this one or a later one
-      not_in_call : (q : ℕ) → missing ≡ q → up s w q ≡ true → (w.node q).epoch ≡ d → (u : Wanted) (their_place : TextPlace) (their_state : State) (their_rest : Reply → Walk) → (w.node q).stage ≡ Calling Gathering
-          → (w.node q).walk ≡ Asks their_place u their_state their_rest → ⊥
-      not_in_call q same up_q here u their_place their_state their_rest their_stage their_walk = elim (cases_lt (w.node q).calls n.calls) [
-        | inl earlier ↦ first q up_q here their_stage earlier
+      -- who is in a call has come to this one
+      in_call : (q : ℕ) → has_place n.comm q ≡ true → up s w q ≡ true → (w.node q).epoch ≡ d → (theirs : Core) (their_place : TextPlace) (u : Wanted) (their_state : State) (their_rest : Reply → Walk) → (w.node q).stage ≡ Calling theirs
+          → (w.node q).walk ≡ Asks their_place u their_state their_rest → Came s w l d n.calls q
+      in_call q placed up_q here theirs their_place u their_state their_rest their_stage their_walk = elim (cases_lt (w.node q).calls n.calls) [
+        | inl earlier ↦ absurd (first q up_q here theirs their_stage earlier)
         | inr later ↦ elim (cases_eq (w.node q).calls n.calls) [
-          | inl equals ↦ not_entered living u (ap (l.entered d n.calls) same ∙ subst (λ (j : ℕ). l.entered d j q ≡ Some u) equals (subst (λ (o : ℕ). l.entered o (w.node q).calls q ≡ Some u) here (theirs.entered their_place u their_state their_rest their_walk)))
+          | inl equals ↦ record {
+            there = up_q;
+            epoch = here;
+            asked = u;
+            entered = subst (λ (j : ℕ). l.entered d j q ≡ Some u) equals (subst (λ (o : ℕ). l.entered o (w.node q).calls q ≡ Some u) here (their_own.entered their_place u their_state their_rest their_walk));
+          }
           | inr ne ↦
               let mine = inside.calls in
-              let own_calls = theirs.calls in
-              let plan = plan_before job l d theirs.before (suc inside.before) theirs.keeping.plan (omega (arith, later, ne, mine, own_calls)) (subst (λ (o : ℕ). PlanAt job l o theirs.before theirs.keeping.plan) here theirs.keeping.at) in
-              let asked = some_of (l.entered d (suc inside.before) missing) (asked_at (l.entered d (suc inside.before)) (comm_in l d) missing plan.1.2 (ap (λ (seats : List Seat). has_place seats missing) comm_here ∙ missing_placed)) in
-              not_entered living asked.0 (ap (λ (j : ℕ). l.entered d j missing) inside.calls ∙ asked.1)
+              let own_calls = their_own.calls in
+              let plan = plan_before job l d their_own.before (suc inside.before) their_own.keeping.plan (omega (arith, later, ne, mine, own_calls)) (subst (λ (o : ℕ). PlanAt job l o their_own.before their_own.keeping.plan) here their_own.keeping.at) in
+              let asked = some_of (l.entered d (suc inside.before) q) (asked_at (l.entered d (suc inside.before)) (comm_in l d) q plan.1.2 (ap (λ (seats : List Seat). has_place seats q) comm_here ∙ placed)) in
+              record { there = up_q; epoch = here; asked = asked.0; entered = ap (λ (j : ℕ). l.entered d j q) inside.calls ∙ asked.1 }
         ]
       ]
         where
-          living : w.killed missing ≡ false
-          living = ap w.killed same ∙ (up_parts s w q up_q).1
+          their_own : Inside job l q (w.node q) theirs
+          their_own = subst (AtPlan job l q (w.node q)) their_stage (is.stepped.nodes q (up_parts s w q up_q).1).at
 
-          theirs : Inside job l q (w.node q) Gathering
-          theirs = subst (AtPlan job l q (w.node q)) their_stage (is.stepped.nodes q (up_parts s w q up_q).1).at
-
-      never_gathers : ⊥
-      never_gathers = of (w.killed missing) refl
+      -- and so has each other place that isn't lost and hasn't left
+      came : (q : ℕ) → has_place n.comm q ≡ true → p ≢ q → (n.lost q ≡ true → ⊥) → (has_left n q ≡ true → ⊥) → Came s w l d n.calls q
+      came q placed apart unlost stayed = of (w.killed q) refl
         where
-          gone : w.killed missing ≡ false → is_outside ((z d).member missing).phase ≡ false → ⊥
-          gone living voted = absent.1 (left_seen p missing on apart living missing_present (voted_inside missing voted))
+          gone : w.killed q ≡ false → is_outside ((z d).member q).phase ≡ false → ⊥
+          gone living voted = stayed (left_seen p q on apart living (present q placed) (voted_inside q voted))
 
-          stands : w.killed missing ≡ false → up s w missing ≡ true → (w.node missing).epoch ≡ d → Stuck (w.node missing) → ⊥
-          stands living up_there here (Polls phase stage yet) = gone living (ap is_outside (polls_phase missing up_there here phase stage) ∙ polls_inside missing up_there phase stage)
-          stands living up_there here (Idles stage none help) =
-              let bad : false ≡ true = sym none ∙ ap (has_place (w.node missing).comm) (is.shows.sane missing living).me
-              ∙ ap (λ (o : Era). has_place o.comm missing) (same_era missing living here) ∙ missing_placed in cc
-          stands living up_there here (Gathers their_place u their_state their_rest stage walk sums waiting calm) =
-              not_in_call missing refl up_there here u their_place their_state their_rest stage walk
+          stands : w.killed q ≡ false → up s w q ≡ true → (w.node q).epoch ≡ d → Stuck (w.node q) → Came s w l d n.calls q
+          stands living up_q here (Polls phase stage yet) = absurd (gone living (ap is_outside (polls_phase q up_q here phase stage) ∙ polls_inside q up_q phase stage))
+          stands living up_q here (Idles stage none help) = absurd (
+              let bad : false ≡ true = sym none ∙ ap (has_place (w.node q).comm) (is.shows.sane q living).me
+              ∙ ap (λ (o : Era). has_place o.comm q) (same_era q living here) ∙ placed in cc)
+          stands living up_q here (Gathers their_place u their_state their_rest stage their_walk parts waiting calm) = in_call q placed up_q here Gathering their_place u their_state their_rest stage their_walk
+          stands living up_q here (Agrees their_place flag their_state their_rest phase stage their_walk yet) = in_call q placed up_q here (Balloting phase) their_place (wanted.Agree flag) their_state their_rest stage their_walk
 
-          of : (b : Bool) → w.killed missing ≡ b → ⊥
-          of true dead = absent.0 (st.told missing p missing_below dead on)
-          of false living = elim (member_phase missing missing_present living) [
-            | inl decided ↦ gone living (decided_inside ((z d).member missing).phase decided)
-            | inr both ↦ stands living both.0 both.1 (stuck_at missing both.0)
+          of : (b : Bool) → w.killed q ≡ b → Came s w l d n.calls q
+          of true dead = absurd (unlost (st.told q p (below q placed) dead on))
+          of false living = elim (member_phase q (present q placed) living) [
+            | inl decided ↦ absurd (gone living (decided_inside ((z d).member q).phase decided))
+            | inr both ↦ stands living both.0 both.1 (stuck_at q both.0)
           ]
 
-    -- ---- a ballot in which somebody polls, and nobody of the epoch gathers
+      -- ---- a call in which it gathers
 
-    module _ (none_gathering : (q : ℕ) → up s w q ≡ true → (w.node q).epoch ≡ d → (w.node q).stage ≡ Calling Gathering → ⊥) (old : Phase) (at : (w.node p).stage ≡ Joining old) (waits : (turn_in (next_ballot (w.node p)) (w.node p) old).poll ≡ poll.NotYet) where
+      module _ (parts : IsOfParts v) (waiting : are_gathered n v ≡ false) (calm : gathering_error n v ≡ None) where
+        missed : (x : ℕ) × (x < size n) × (is_none (part_of n v x) ≡ true)
+        missed = awaited n v waiting
+
+        -- whose part isn't there
+        abbrev missing : ℕ
+        missing = proc_at n missed.0
+
+        abbrev heard : Option (List ℤ)
+        heard = first_read (λ t. only (λ values. length values == due_from v (size n) (my_place n) missed.0) (part_in n.epoch n.calls t)) (n.texts missing)
+
+        neither : ((missed.0 == my_place n) ≡ true → ⊥) × (is_some (first_read (λ t. only (λ values. length values == due_from v (size n) (my_place n) missed.0) (part_in n.epoch n.calls t)) (n.texts missing)) ≡ true → ⊥)
+        neither = no_clash (missed.0 == my_place n) (own_part v) heard missed.2
+
+        absent : (n.lost missing ≡ true → ⊥) × (has_left n missing ≡ true → ⊥)
+        absent = none_absent n v missed.0 calm missed.1 missed.2
+
+        below_all : missed.0 < length (members n)
+        below_all = let few = missed.1 in let long = same_length n.comm in omega (arith, few, long)
+
+        missing_placed : has_place n.comm missing ≡ true
+        missing_placed = seated missed.0 below_all
+
+        missing_below : missing < s.procs
+        missing_below = below missing missing_placed
+
+        apart : p ≢ missing
+        apart same = neither.0 (same_number missed.0 (my_place n) (sym (seat_of_it missed.0 below_all) ∙ ap (seat_of (members n)) (sym same ∙ sym (is.shows.sane p k.1).me)))
+
+        -- who entered the call has given its part
+        not_entered : w.killed missing ≡ false → (u : Wanted) → l.entered d n.calls missing ≡ Some u → ⊥
+        not_entered living u asked =
+            let line : w.link missing p ≡ [] = st.clear missing p missing_below (λ same. apart (sym same)) on in
+            let whole = is.delivered.there missing p d n.calls u living on (λ same. apart (sym same)) asked (parts_alike v u parts (alike u missing asked)) (ap (λ (seats : List Seat). has_place seats p) comm_here ∙ has_own) in
+            let there : has_part d n.calls (n.texts missing) ≡ true =
+            ap (has_part d n.calls) (sym (ap (λ (ts : List Text). n.texts missing ++ ts) line ∙ append_none (n.texts missing))) ∙ whole in
+            neither.1 (part_readable l d n.calls missing p (λ values. length values == due_from v (size n) (my_place n) missed.0) (n.texts missing) (is.spoken.texts p missing)
+            (part_is_due job l d n.calls n p missing missed.0 v parts comm_here (procs_distinct n.comm (era_apart s fate d (era_of n) era_here)) (is.shows.sane p k.1).me has_own missed.1 refl
+            (is.stepped.entries d n.calls) entered) there)
+
+        never_gathers : ⊥
+        never_gathers = let c = came missing missing_placed apart absent.0 absent.1 in not_entered (up_parts s w missing c.there).1 c.asked c.entered
+
+      -- ---- an agreement, where nobody in its ballot isn't as far
+
+      module _ (flag : ℤ) (asks : v ≡ wanted.Agree flag) (old : Phase) (stage : n.stage ≡ Calling (Balloting old)) (waits : (turn_in (call_ballot n (wanted.Agree flag)) n old).poll ≡ poll.NotYet)
+          (ahead : (q : ℕ) → up s w q ≡ true → (w.node q).epoch ≡ d → (w.node q).calls ≡ n.calls → (theirs : Phase) → (w.node q).stage ≡ Calling (Balloting theirs) → place_of theirs < place_of old → ⊥) where
+        abbrev this : Ballot
+        this = call_ballot n (wanted.Agree flag)
+
+        abbrev poll_here : ballot.World
+        poll_here = is.polls d n.calls
+
+        sound : Sound (length (members n)) (seat_at (members n)) poll_here
+        sound = sound_here job w z fate l is.polls p on is.shows is.linked is.polled flag old stage
+
+        -- who came has voted
+        came_voted : (q : ℕ) → Came s w l d n.calls q → is_some (vote_of poll_here q) ≡ true
+        came_voted q c =
+            let f = agrees_so c.asked (alike c.asked q c.entered ∙ ap common_of asks) in
+            caused.voted d n.calls q f.0 (c.entered ∙ ap Some f.1)
+
+        -- what is kept of it is all that it sent here
+        all_here : (q : ℕ) → has_place n.comm q ≡ true → p ≢ q → stream w q p ≡ n.texts q
+        all_here q placed apart = ap (λ (ts : List Text). n.texts q ++ ts) (st.clear q p (below q placed) (λ same. apart (sym same)) on) ∙ append_none (n.texts q)
+
+        own_here : has_place (comm_in l d) p ≡ true
+        own_here = ap (λ (seats : List Seat). has_place seats p) comm_here ∙ has_own
+
+        no_vote : (c : ℕ) → c < length (members n) → NoVote (seen this n (seat_at (members n) c)) → ⊥
+        no_vote c low_seat none =
+            let q = seat_at (members n) c in
+            let placed = seated c low_seat in
+            let apart : p ≢ seat_at (members n) c = λ same. let bad : true ≡ false = sym (own_vote_reads job w z fate l is.polls p on is.shows is.linked is.polled flag old stage) ∙ ap (λ (o : ℕ). is_some (reading.vote_of this n o)) same ∙ ap is_some none.0 in cc in
+            let came_too = came q placed apart (λ dead. let bad : true ≡ false = sym dead ∙ none.1 in cc) (λ gone. let bad : true ≡ false = sym gone ∙ none.2 in cc) in
+            let said = caused.said.votes q p d n.calls (up_parts s w q came_too.there).1 on (λ same. apart (sym same)) own_here (came_voted q came_too) in
+            let reads = vote_reads job w z fate l is.polls p on is.shows is.linked is.polled flag old stage q (ap (has_vote d n.calls) (sym (all_here q placed apart)) ∙ said) in
+            let bad : true ≡ false = sym reads ∙ ap is_some none.0 in cc
+
+        -- a member that is in this ballot is past that round
+        past_there : (q r : ℕ) (own : List Slot) → old ≡ Round r own → seat_of (members n) q ≡ r → up s w q ≡ true → (w.node q).epoch ≡ d → (w.node q).calls ≡ n.calls → (theirs : Phase) → (w.node q).stage ≡ Calling (Balloting theirs)
+            → is_outside theirs ≡ false → past r theirs ≡ true
+        past_there q r own round seat up_q epoch calls Outside at_it entered_it = absurd (let bad : true ≡ false = entered_it in cc)
+        past_there q r own round seat up_q epoch calls Voting at_it entered_it = absurd (ahead q up_q epoch calls Voting at_it (subst (λ (o : Phase). 0 < place_of o) (sym round) (omega arith)))
+        past_there q r own round seat up_q epoch calls (Decided held) at_it entered_it = refl
+        past_there q r own round seat up_q epoch calls (Round o held) at_it entered_it = elim (cases_lt r o) [
+          | inl beyond ↦ less_is r o beyond
+          | inr within ↦ elim (cases_eq o r) [
+            | inl same ↦ absurd (own_call_round_not q up_q o held at_it (same ∙ sym seat ∙ ap (λ (x : Era). seat_of (nodes.procs_of x.comm) q) (sym (same_era q (up_parts s w q up_q).1 epoch))))
+            | inr ne ↦ absurd (ahead q up_q epoch calls (Round o held) at_it (subst (λ (x : Phase). suc o < place_of x) (sym round) (omega (arith, within, ne))))
+          ]
+        ]
+
+        -- and so is one that came, in this ballot or behind it
+        is_past : (q r : ℕ) (own : List Slot) → old ≡ Round r own → seat_of (members n) q ≡ r → Came s w l d n.calls q → past r (poll_here.member q).phase ≡ true
+        is_past q r own round seat c = of (in_poll (w.node q) n.calls) refl
+          where
+            polls_too : NodePolls is.polls q (w.node q)
+            polls_too = is.polled.nodes q (up_parts s w q c.there).1
+
+            entered_it : is_outside (poll_here.member q).phase ≡ false
+            entered_it = not_outside (poll_here.member q).phase (λ out. let bad : true ≡ false = sym (came_voted q c) ∙ ap is_some (sound.messages.knows.outside q out) in cc)
+
+            of : (b : Bool) → in_poll (w.node q) n.calls ≡ b → past r (poll_here.member q).phase ≡ true
+            of false out = left_past r (poll_here.member q).phase (ap (λ (e : ℕ). may_leave ((is.polls e n.calls).member q).phase) (sym c.epoch) ∙ polls_too.free n.calls out) entered_it
+            of true in_it =
+                let b = balloting_at (w.node q).stage (first_of (is_balloting (w.node q).stage) (n.calls == (w.node q).calls) in_it) in
+                let calls : n.calls ≡ (w.node q).calls = equal n.calls (w.node q).calls (second_of (is_balloting (w.node q).stage) (n.calls == (w.node q).calls) in_it) in
+                let x = polls_too.balloting b.0 b.1 in
+                ap (λ (e : ℕ). past r ((is.polls e n.calls).member q).phase) (sym c.epoch) ∙ ap (λ (e : ℕ). past r ((is.polls (w.node q).epoch e).member q).phase) calls ∙ ap (past r) x.stands
+                ∙ past_there q r own round seat c.there c.epoch (sym calls) b.0 b.1 x.inside
+
+        no_estimate : (r : ℕ) (own : List Slot) → old ≡ Round r own → r < length (members n) → r ≢ seat_of (members n) n.me → NoEstimate (seen this n (seat_at (members n) r)) → ⊥
+        no_estimate r own round low_seat ne none =
+            let q = seat_at (members n) r in
+            let placed = seated r low_seat in
+            let apart : p ≢ seat_at (members n) r = λ same. ne (sym (seat_of_it r low_seat) ∙ ap (seat_of (members n)) (sym same ∙ sym (is.shows.sane p k.1).me)) in
+            let came_too = came q placed apart (λ dead. let bad : true ≡ false = sym dead ∙ none.1 in cc) (λ gone. let bad : true ≡ false = sym gone ∙ none.2 in cc) in
+            let spoken = sound.spoken.said r low_seat (is_past q r own round (seat_of_it r low_seat) came_too) in
+            let said = caused.said.estimates q p d n.calls (up_parts s w q came_too.there).1 on (λ same. apart (sym same)) own_here spoken in
+            let reads = estimate_reads job w z fate l is.polls p on is.shows is.linked is.polled flag old stage q (has_seat (members n) r low_seat) (ap (has_estimate d n.calls (seat_in l d q)) (sym (all_here q placed apart)) ∙ said) in
+            let bad : true ≡ false = sym reads ∙ ap is_some none.0 in cc
+
+        never_waits : ⊥
+        never_waits = by old refl ((turn_waits (length (members n)) (seat_of (members n) n.me) (λ j. seen this n (seat_at (members n) j)) old).0 waits)
+          where
+            by : (phase : Phase) → old ≡ phase → Awaits (length (members n)) (seat_of (members n) n.me) (λ j. seen (call_ballot n (wanted.Agree flag)) n (seat_at (members n) j)) phase → ⊥
+            by Outside same awaits = let bad : true ≡ false = sym (ap is_outside same) ∙ ((is.polled.nodes p k.1).balloting old stage).inside in cc
+            by Voting same awaits = no_vote awaits.0 awaits.1 awaits.2
+            by (Round r own) same awaits = no_estimate r own same awaits.0 awaits.1 awaits.2
+            by (Decided own) same awaits = awaits
+
+    -- ---- a ballot in which somebody polls, and nobody of the epoch is in a call
+
+    module _ (none_calling : (q : ℕ) → up s w q ≡ true → (w.node q).epoch ≡ d → (core : Core) → (w.node q).stage ≡ Calling core → ⊥) (old : Phase) (at : (w.node p).stage ≡ Joining old) (waits : (turn_in (next_ballot (w.node p)) (w.node p) old).poll ≡ poll.NotYet) where
       phase_here : ((z d).member p).phase ≡ old
       phase_here = polls_phase p on refl old at
 
@@ -423,7 +520,8 @@ module _ (job : Job) (ps : List ℕ) (w : World) (caused : Caused job ps w) (sma
               by : Stuck (w.node (seat_at n.present c)) → is_outside ((z d).member (seat_at n.present c)).phase ≡ false
               by (Polls phase stage yet) = ap is_outside (polls_phase (seat_at n.present c) both.0 both.1 phase stage) ∙ polls_inside (seat_at n.present c) both.0 phase stage
               by (Idles stage place help) = absurd (no_idler (seat_at n.present c) both.0 both.1 stage help)
-              by (Gathers place v state rest stage walk sums waiting calm) = absurd (none_gathering (seat_at n.present c) both.0 both.1 stage)
+              by (Gathers place v state rest stage walk parts waiting calm) = absurd (none_calling (seat_at n.present c) both.0 both.1 Gathering stage)
+              by (Agrees place flag state rest phase stage walk yet) = absurd (none_calling (seat_at n.present c) both.0 both.1 (Balloting phase) stage)
 
       attentive : Attentive (length n.present) (seat_at n.present) (z d) p
       attentive = record {
@@ -464,7 +562,8 @@ module _ (job : Job) (ps : List ℕ) (w : World) (caused : Caused job ps w) (sma
                 by : Stuck (w.node (seat_at n.present r)) → past r ((z d).member (seat_at n.present r)).phase ≡ true
                 by (Polls phase stage yet) = ap (past r) (polls_phase (seat_at n.present r) both.0 both.1 phase stage) ∙ at_round phase stage yet
                 by (Idles stage place help) = absurd (no_idler (seat_at n.present r) both.0 both.1 stage help)
-                by (Gathers place v state rest stage walk sums waiting calm) = absurd (none_gathering (seat_at n.present r) both.0 both.1 stage)
+                by (Gathers place v state rest stage walk parts waiting calm) = absurd (none_calling (seat_at n.present r) both.0 both.1 Gathering stage)
+                by (Agrees place flag state rest phase stage walk yet) = absurd (none_calling (seat_at n.present r) both.0 both.1 (Balloting phase) stage)
 
         seat : (seat_of n.present p < length n.present) × (seat_at n.present (seat_of n.present p) ≡ p)
         seat = seat_here s w z fate p on is.shows
@@ -482,19 +581,38 @@ module _ (job : Job) (ps : List ℕ) (w : World) (caused : Caused job ps w) (sma
             (subst (Attentive (length n.present) (seat_at n.present) (z d)) (sym seat.1) attentive) unblocked
             (ap (λ (o : ℕ). (turn_of (length n.present) (seat_at n.present) (seat_of n.present p) ((z d).member o)).poll) seat.1 ∙ ap (λ (x : Turn). x.poll) same)
 
-  -- so nobody gathers in an epoch before which nobody is up, call by call
-  none_gathers : (e : ℕ) → ((q : ℕ) → up s w q ≡ true → e ≤ (w.node q).epoch) → (far p : ℕ) → up s w p ≡ true → (w.node p).epoch ≡ e → (w.node p).stage ≡ Calling Gathering → (w.node p).calls < far → ⊥
-  none_gathers e low zero p on same at less = omega (arith, less)
-  none_gathers e low (suc far) p on same at less = of (λ q up_q here own before. none_gathers e low far q up_q (here ∙ same) own (omega (arith, before, less))) (stuck_at p on)
+  -- so nobody is in a call of an epoch before which nobody is up, call by call, and in the ballot of a call phase by phase
+  abbrev NoneBefore : ℕ → ℕ → Type 0
+  NoneBefore e calls = (q : ℕ) → up s w q ≡ true → (w.node q).epoch ≡ e → (core : Core) → (w.node q).stage ≡ Calling core → (w.node q).calls < calls → ⊥
+
+  none_agrees : (e : ℕ) → ((q : ℕ) → up s w q ≡ true → e ≤ (w.node q).epoch) → (calls : ℕ) → NoneBefore e calls → (far p : ℕ) → up s w p ≡ true → (w.node p).epoch ≡ e → (w.node p).calls ≡ calls
+      → (phase : Phase) → (w.node p).stage ≡ Calling (Balloting phase) → place_of phase < far → ⊥
+  none_agrees e low calls first zero p on same here phase at behind = omega (arith, behind)
+  none_agrees e low calls first (suc far) p on same here phase at behind = of (λ q up_q there here_too own own_at before. none_agrees e low calls first far q up_q (there ∙ same) (here_too ∙ here) own own_at (omega (arith, before, behind))) (stuck_at p on)
     where
-      of : ((q : ℕ) → up s w q ≡ true → (w.node q).epoch ≡ (w.node p).epoch → (w.node q).stage ≡ Calling Gathering → (w.node q).calls < (w.node p).calls → ⊥) → Stuck (w.node p) → ⊥
+      of : ((q : ℕ) → up s w q ≡ true → (w.node q).epoch ≡ (w.node p).epoch → (w.node q).calls ≡ (w.node p).calls → (own : Phase) → (w.node q).stage ≡ Calling (Balloting own) → place_of own < place_of phase → ⊥) → Stuck (w.node p) → ⊥
+      of ahead (Polls theirs stage yet) = let bad : false ≡ true = sym (ap is_in_call stage) ∙ ap is_in_call at in cc
+      of ahead (Idles stage place help) = let bad : false ≡ true = sym (ap is_in_call stage) ∙ ap is_in_call at in cc
+      of ahead (Gathers place v state rest stage walk parts waiting calm) = let bad : false ≡ true = sym (ap is_balloting stage) ∙ ap is_balloting at in cc
+      of ahead (Agrees place flag state rest old stage walk yet) =
+          let phase_is : phase ≡ old = ap call_phase (sym at ∙ stage) in
+          never_waits p on (λ q up_q. subst (λ (o : ℕ). o ≤ (w.node q).epoch) (sym same) (low q up_q)) (Balloting old) place (wanted.Agree flag) state rest stage walk
+          (λ q up_q there core own before. first q up_q (there ∙ same) core own (subst (λ (o : ℕ). (w.node q).calls < o) here before)) flag refl old stage yet
+          (λ q up_q there here_too own own_at before. ahead q up_q there here_too own own_at (subst (λ (o : Phase). place_of own < place_of o) (sym phase_is) before))
+
+  none_calls : (e : ℕ) → ((q : ℕ) → up s w q ≡ true → e ≤ (w.node q).epoch) → (far p : ℕ) → up s w p ≡ true → (w.node p).epoch ≡ e → (core : Core) → (w.node p).stage ≡ Calling core → (w.node p).calls < far → ⊥
+  none_calls e low zero p on same core at behind = omega (arith, behind)
+  none_calls e low (suc far) p on same core at behind = of (λ q up_q there theirs own before. none_calls e low far q up_q there theirs own (omega (arith, before, behind))) (stuck_at p on)
+    where
+      of : NoneBefore e (w.node p).calls → Stuck (w.node p) → ⊥
       of first (Polls phase stage yet) = let bad : false ≡ true = sym (ap is_in_call stage) ∙ ap is_in_call at in cc
       of first (Idles stage place help) = let bad : false ≡ true = sym (ap is_in_call stage) ∙ ap is_in_call at in cc
-      of first (Gathers place v state rest stage walk sums waiting calm) =
-          never_gathers p on (λ q up_q. subst (λ (o : ℕ). o ≤ (w.node q).epoch) (sym same) (low q up_q)) place v state rest stage walk sums waiting calm first
+      of first (Gathers place v state rest stage walk parts waiting calm) =
+          never_gathers p on (λ q up_q. subst (λ (o : ℕ). o ≤ (w.node q).epoch) (sym same) (low q up_q)) Gathering place v state rest stage walk (λ q up_q there. first q up_q (there ∙ same)) parts waiting calm
+      of first (Agrees place flag state rest phase stage walk yet) = none_agrees e low (w.node p).calls first (suc (place_of phase)) p on same refl phase stage (omega arith)
 
-  no_gatherer : (p : ℕ) → ((q : ℕ) → up s w q ≡ true → (w.node p).epoch ≤ (w.node q).epoch) → (q : ℕ) → up s w q ≡ true → (w.node q).epoch ≡ (w.node p).epoch → (w.node q).stage ≡ Calling Gathering → ⊥
-  no_gatherer p low q on same at = none_gathers (w.node p).epoch low (suc (w.node q).calls) q on same at (omega arith)
+  no_caller : (p : ℕ) → ((q : ℕ) → up s w q ≡ true → (w.node p).epoch ≤ (w.node q).epoch) → (q : ℕ) → up s w q ≡ true → (w.node q).epoch ≡ (w.node p).epoch → (core : Core) → (w.node q).stage ≡ Calling core → ⊥
+  no_caller p low q on same core at = none_calls (w.node p).epoch low (suc (w.node q).calls) q on same core at (omega arith)
 
   -- ---- nobody is stuck
 
@@ -505,10 +623,11 @@ module _ (job : Job) (ps : List ℕ) (w : World) (caused : Caused job ps w) (sma
     where
       of : Stuck (w.node p) → ⊥
       of (Idles stage place help) = let bad : true ≡ false = ap is_later (sym stage ∙ at) in cc
-      of (Gathers place v state rest stage walk sums waiting calm) = let bad : true ≡ false = ap is_later (sym stage ∙ at) in cc
+      of (Gathers place v state rest stage walk parts waiting calm) = let bad : true ≡ false = ap is_later (sym stage ∙ at) in cc
+      of (Agrees place flag state rest old stage walk yet) = let bad : true ≡ false = ap is_later (sym stage ∙ at) in cc
       of (Polls old stage yet) =
           let same : phase ≡ old = ap phase_of (sym at ∙ stage) in
-          polls_not p on low (no_gatherer p low) old stage yet (λ q up_q here own own_at before. earlier q up_q here own own_at (subst (λ (o : Phase). place_of own < place_of o) (sym same) before))
+          polls_not p on low (no_caller p low) old stage yet (λ q up_q here own own_at before. earlier q up_q here own own_at (subst (λ (o : Phase). place_of own < place_of o) (sym same) before))
 
   none_polls : (e : ℕ) → ((q : ℕ) → up s w q ≡ true → e ≤ (w.node q).epoch) → (far p : ℕ) → up s w p ≡ true → (w.node p).epoch ≡ e → (phase : Phase) → (w.node p).stage ≡ Joining phase → place_of phase < far → ⊥
   none_polls e low zero p on same phase at less = omega (arith, less)
@@ -561,7 +680,8 @@ module _ (job : Job) (ps : List ℕ) (w : World) (caused : Caused job ps w) (sma
                     let living_too = (up_parts s w holder.0 both.0).1 in
                     let bad : false ≡ true = sym place ∙ ap (has_place (w.node holder.0).comm) (is.shows.sane holder.0 living_too).me
                     ∙ ap (λ (x : Era). has_place x.comm holder.0) (same_era p on low holder.0 living_too both.1) ∙ holder.1 in cc)
-                stands (Gathers place v state rest stage walk sums waiting calm) = absurd (no_gatherer p low holder.0 both.0 both.1 stage)
+                stands (Gathers place v state rest stage walk parts waiting calm) = absurd (no_caller p low holder.0 both.0 both.1 Gathering stage)
+                stands (Agrees place flag state rest phase stage walk yet) = absurd (no_caller p low holder.0 both.0 both.1 (Balloting phase) stage)
 
         of : (b : Bool) → w.killed holder.0 ≡ b → ⊥
         of true dead =
@@ -580,7 +700,8 @@ module _ (job : Job) (ps : List ℕ) (w : World) (caused : Caused job ps w) (sma
         none_here : (e : ℕ) → ((q : ℕ) → up s w q ≡ true → e ≤ (w.node q).epoch) → (q : ℕ) → up s w q ≡ true → (w.node q).epoch ≡ e → Stuck (w.node q) → ⊥
         none_here e low q on same (Polls phase stage yet) = none_polls e low (suc (place_of phase)) q on same phase stage (omega arith)
         none_here e low q on same (Idles stage place help) = none_idles q on (λ o up_o. subst (λ (x : ℕ). x ≤ (w.node o).epoch) (sym same) (low o up_o)) stage place help
-        none_here e low q on same (Gathers place v state rest stage walk sums waiting calm) = none_gathers e low (suc (w.node q).calls) q on same stage (omega arith)
+        none_here e low q on same (Gathers place v state rest stage walk parts waiting calm) = none_calls e low (suc (w.node q).calls) q on same Gathering stage (omega arith)
+        none_here e low q on same (Agrees place flag state rest phase stage walk yet) = none_calls e low (suc (w.node q).calls) q on same (Balloting phase) stage (omega arith)
 
     pub nobody_up : (q : ℕ) → up s w q ≡ false
     nobody_up q = of (up s w q) refl

@@ -17,6 +17,8 @@ use Rattle.fx_item.specs.declared.item.Item.TheVariants as item
 use Rattle.fx_link.specs.declared.slot.Slot.{Slot}
 use Rattle.fx_link.specs.declared.slot.Slot.TheVariants as slot
 use Rattle.fx_script.specs.declared.job.Job.{Job}
+use Rattle.fx_value.specs.Shape.{StaysShaped}
+use Rattle.fx_value.proofs.Staying.{stays_shaped}
 use Rattle.fx_walk.specs.declared.printed.Printed.{Printed}
 use Rattle.fx_walk.specs.declared.wanted.Wanted.{Wanted}
 use Rattle.fx_walk.specs.Callbacks.{view_at_init, body_start, state_at, no_latest}
@@ -74,7 +76,7 @@ use Rattle.fx_calls.proofs.Owed.{Does, grows_by, kept_true, entered_same, inits_
 use Rattle.fx_calls.proofs.Parts.{TruePart, Spoken, parts_grow}
 use Rattle.fx_calls.proofs.Plans.{first_plan, EntryAt, Grows, grows_none}
 use Rattle.fx_calls.proofs.Standing.{InBody, OfStage, AtStage}
-use Rattle.fx_calls.proofs.Starts.{begins_at_zero}
+use Rattle.fx_calls.proofs.Starts.{begins_at_zero, begins_shaped, stop_shaped}
 use Rattle.fx_calls.proofs.Stepped.{Keeping, AtPlan, InStep, Stepped, Adds, adds_none}
 use Rattle.fx_legal.specs.Stands.{Stay, asked_of}
 use Rattle.fx_machine.specs.Nodes.{Gathering, Sharing, Telling, Giving, Balloting, latest, goes_on}
@@ -166,9 +168,9 @@ module _ (job : Job) (w : World) (z : ℕ → ballot.World) (fate : ℕ → Opti
   entries_before e j v is = in_step.entries e j p v is
 
   -- a step that enters nothing, behind which it stands so in its walk
-  adds_same : (m : Node) (g : Ledger) → g.entered ≡ l.entered → Grows l g → ((x : ℕ) → (m.groups x).created ≡ false) → ((e j : ℕ) (v : Wanted) → l.entered e j p ≡ Some v → (e < m.epoch) ⊎ ((e ≡ m.epoch) × (j ≤ m.calls)))
+  adds_same : (m : Node) (g : Ledger) → g.entered ≡ l.entered → Grows l g → StaysShaped job.names m.walk → ((x : ℕ) → (m.groups x).created ≡ false) → ((e j : ℕ) (v : Wanted) → l.entered e j p ≡ Some v → (e < m.epoch) ⊎ ((e ≡ m.epoch) × (j ≤ m.calls)))
       → AtPlan job l p m m.stage → Adds job p m l g
-  adds_same m g same grows none past at = adds_none job p m l g same grows entries_before (record { uncreated = none; past = past; at = at })
+  adds_same m g same grows shaped none past at = adds_none job p m l g same grows entries_before (record { shaped = shaped; uncreated = none; past = past; at = at })
 
   pub texts_then : (g : Ledger) → Grows l g → (c : ℕ) → Each (TruePart g c p) (n.texts c)
   texts_then g grows c = parts_grow l g grows c p (n.texts c) (sp.texts p c)
@@ -302,7 +304,7 @@ module _ (job : Job) (w : World) (z : ℕ → ballot.World) (fate : ℕ → Opti
       goes = ((few, may), tt);
       links = join_links;
       kills = refl;
-      adds = adds_same act.node m refl join_grows mine_before.uncreated mine_before.past tt;
+      adds = adds_same act.node m refl join_grows mine_before.shaped mine_before.uncreated mine_before.past tt;
       texts = kept_true (λ c t. TruePart m c p t) n.me n.texts (text.Join (suc d) kind) tt (texts_then m join_grows);
       sends = λ b. others_true (TruePart m p b) (text.Join (suc d) kind) tt n.me b n.present;
       heeds = join_heeds;
@@ -392,7 +394,7 @@ module _ (job : Job) (w : World) (z : ℕ → ballot.World) (fate : ℕ → Opti
         goes = tt;
         links = silent_links (moves n Joining phase) _ (after_votes s w z fate p here h old at phase poll.Moved is) (record { stand = b.stand; empty = b.empty });
         kills = refl;
-        adds = adds_same (moves n Joining phase).node l refl (grows_none l) mine_before.uncreated mine_before.past tt;
+        adds = adds_same (moves n Joining phase).node l refl (grows_none l) mine_before.shaped mine_before.uncreated mine_before.past tt;
         texts = sp.texts p;
         sends = λ b. tt;
         heeds = heeds_quiet (moves n Joining phase) l (grows_none l) refl refl refl (ap is_balloting at) refl (in_polls.texts p) (λ b. tt);
@@ -406,7 +408,7 @@ module _ (job : Job) (w : World) (z : ℕ → ballot.World) (fate : ℕ → Opti
     goes = tt;
     links = silent_links (speaks (next_ballot n) n Joining phase slots) (after_turn w z p (record { phase = (turn_in (next_ballot n) n old).phase; poll = poll.SendEstimate slots })) (after_votes s w z fate p here h old at phase (poll.SendEstimate slots) is) (record { stand = b.stand; empty = b.empty });
     kills = refl;
-    adds = adds_same (speaks (next_ballot n) n Joining phase slots).node l refl (grows_none l) mine_before.uncreated mine_before.past tt;
+    adds = adds_same (speaks (next_ballot n) n Joining phase slots).node l refl (grows_none l) mine_before.shaped mine_before.uncreated mine_before.past tt;
     texts = kept_true (λ c t. TruePart l c p t) n.me n.texts (text.Jest (suc d) (seat_of n.present n.me) slots) tt (sp.texts p);
     sends = λ b. others_true (TruePart l p b) (text.Jest (suc d) (seat_of n.present n.me) slots) tt n.me b n.present;
     heeds = heeds_quiet (speaks (next_ballot n) n Joining phase slots) l (grows_none l) refl refl refl (ap is_balloting at) refl
@@ -439,7 +441,7 @@ module _ (job : Job) (w : World) (z : ℕ → ballot.World) (fate : ℕ → Opti
         goes = ((few, may_ending job w z fate l p here h t old at phase slots is last), tt);
         links = end_links job w z fate l p here h t old at phase slots is last;
         kills = refl;
-        adds = adds_same (record n { stage = Over }) end_ledger refl end_grows mine_before.uncreated mine_before.past tt;
+        adds = adds_same (record n { stage = Over }) end_ledger refl end_grows mine_before.shaped mine_before.uncreated mine_before.past tt;
         texts = texts_then end_ledger end_grows;
         sends = λ b. tt;
         heeds = heeds_quiet (ends n) end_ledger end_grows refl refl refl (ap is_balloting at) refl (in_polls.texts p) (λ b. tt);
@@ -485,7 +487,7 @@ module _ (job : Job) (w : World) (z : ℕ → ballot.World) (fate : ℕ → Opti
         goes = ((few, may_repair job w z fate l p here h t old at phase slots is goes_on), tt);
         links = links;
         kills = refl;
-        adds = adds_same (arrived (voters (is_join (suc d)) n.present slots) n) (behind slots) refl (repair_grows slots links.stands) (λ x. refl) (λ e j v i. inl (before e j v i)) refl;
+        adds = adds_same (arrived (voters (is_join (suc d)) n.present slots) n) (behind slots) refl (repair_grows slots links.stands) mine_before.shaped (λ x. refl) (λ e j v i. inl (before e j v i)) refl;
         texts = texts_then (behind slots) (repair_grows slots links.stands);
         sends = λ b. tt;
         heeds =
@@ -508,14 +510,14 @@ module _ (job : Job) (w : World) (z : ℕ → ballot.World) (fate : ℕ → Opti
 
   -- a step outside the ballots that only writes, and enters nothing
   pub writes_does : (items : List Item) (m : Node) (x : Stand) → Aside n (nodes.writing items m) → phase_of n.stage ≡ Outside → 0 < d → has_place n.comm p ≡ true → Wrote job l p (noted items) x
-      → (written_all job l (noted items)).entered ≡ l.entered → AtStage job x m → ((c : ℕ) → m.texts c ≡ n.texts c) → ((g : ℕ) → (m.groups g).created ≡ false) → m.epoch ≡ n.epoch → m.calls ≡ n.calls
+      → (written_all job l (noted items)).entered ≡ l.entered → AtStage job x m → ((c : ℕ) → m.texts c ≡ n.texts c) → StaysShaped job.names m.walk → ((g : ℕ) → (m.groups g).created ≡ false) → m.epoch ≡ n.epoch → m.calls ≡ n.calls
       → AtPlan job l p m m.stage → Heeds p (nodes.writing items m) l (written_all job l (noted items)) polls → Does job p (nodes.writing items m) w z fate l polls
-  writes_does items m x aside out later place r same mine texts none epoch calls at heeds = record {
+  writes_does items m x aside out later place r same mine texts shaped none epoch calls at heeds = record {
     plays = aside_plays s w z fate p here h tr (nodes.writing items m) aside out later place;
     goes = r.goes;
     links = wrote_links (nodes.writing items m) (noted items) x r mine;
     kills = r.kills;
-    adds = adds_same m (written_all job l (noted items)) same grows none
+    adds = adds_same m (written_all job l (noted items)) same grows shaped none
         (λ e j v is. subst (λ (o : ℕ). (e < o) ⊎ ((e ≡ o) × (j ≤ m.calls))) (sym epoch) (subst (λ (o : ℕ). (e < d) ⊎ ((e ≡ d) × (j ≤ o))) (sym calls) (mine_before.past e j v is))) at;
     texts = λ c. subst (Each (TruePart (written_all job l (noted items)) c p)) (sym (texts c)) (texts_then (written_all job l (noted items)) grows c);
     sends = λ b. tt;
@@ -548,10 +550,16 @@ module _ (job : Job) (w : World) (z : ℕ → ballot.World) (fate : ℕ → Opti
   begins_keeping begun comm = record {
     plan = first_plan job (size n);
     at = (begun, ap (λ (seats : List Seat). first_plan job (length seats)) (sym comm));
-    keeps = subst (λ (cs : List ℤ). Keeps (begun_walk) (job_plan job (record { size = size n; latest = no_latest; counters = cs })) no_latest) (begins_at_zero job facts.rules n.role (my_place n) (size n) (state_of n))
+    keeps = subst (λ (cs : List ℤ). Keeps (begun_walk) (job_plan job (record { size = size n; latest = no_latest; counters = cs })) no_latest) (begins_at_zero job facts.rules n.role (my_place n) (size n) (state_of n) (stop_shaped job.names n.walk mine_before.shaped))
         (facts.planned (view_at_init n.role (my_place n) (size n)) (body_start (facts_of job) n.role (my_place n) (size n) (state_of n)));
     only = facts.asks (view_at_init n.role (my_place n) (size n)) (body_start (facts_of job) n.role (my_place n) (size n) (state_of n));
   }
+
+  -- and stops in states of the declared shape
+  begins_shaped_now : StaysShaped job.names (inits s n).node.walk
+  begins_shaped_now =
+      stays_shaped (facts_of job) job.body facts.rules.body (body_start (facts_of job) n.role (my_place n) (size n) (state_of n))
+      (begins_shaped job facts.rules n.role (my_place n) (size n) (state_of n) (stop_shaped job.names n.walk mine_before.shaped)) (view_at_init n.role (my_place n) (size n))
 
   pub inits_does : n.stage ≡ Arrived → has_place n.comm n.me ≡ true → Does job p (inits s n) w z fate l polls
   inits_does at place =
@@ -565,7 +573,7 @@ module _ (job : Job) (w : World) (z : ℕ → ballot.World) (fate : ℕ → Opti
       (at_own _ _ (inits_wrote job n l few comm (named later) place (b.seated place) st.current))
       (entered_same job l (inits s n).items (inits_open s n))
       (record { stay = _; stays = record { within = refl; calls = sym first; none_created = λ g. refl }; stand = refl })
-      (λ c. refl) mine_before.uncreated refl refl
+      (λ c. refl) begins_shaped_now mine_before.uncreated refl refl
       (subst (Keeping job l (inits s n).node) (sym first) (begins_keeping (ap is_some st.chapter.at) comm))
       (let r = at_own _ _ (inits_wrote job n l few comm (named later) place (b.seated place) st.current) in
       heeds_quiet (inits s n) (written_all job l (noted (inits s n).items)) (write_grows (inits s n).items _ r (entered_same job l (inits s n).items (inits_open s n))) r.joined (returns_same job l (inits s n).items (inits_open s n)) refl
@@ -584,7 +592,7 @@ module _ (job : Job) (w : World) (z : ℕ → ballot.World) (fate : ℕ → Opti
       writes_does [] (record n { walk = rest }) (l.stands p) (writes_aside n _ _ refl refl refl refl refl refl (ap is_placed at)) (ap phase_of at) (walks_on at).0 (walks_on at).1 (wrote_none job l p (l.stands p) refl) refl
       (subst (OfStage job (l.stands p) (record n { walk = rest })) (sym at)
       (record { stay = b.stay; stays = record { within = b.stays.within; calls = b.stays.calls; none_created = b.stays.none_created }; stand = b.stand ∙ ap (λ (o : Walk). stand.Walking b.stay (stand.shown o)) e }))
-      (λ c. refl) mine_before.uncreated refl refl
+      (λ c. refl) (subst (StaysShaped job.names) e mine_before.shaped) mine_before.uncreated refl refl
       (subst (AtPlan job l p (record n { walk = rest })) (sym at)
       (record { plan = g.plan; at = g.at; keeps = subst (λ (o : Walk). Keeps o g.plan no_latest) e g.keeps; only = subst (OnlyAsks IsOfNoGroup) e g.only }))
       (heeds_quiet (passes_on rest n) l (grows_none l) refl refl refl (ap is_balloting at) (ap is_balloting at) (in_polls.texts p) (λ b. tt))
@@ -603,7 +611,7 @@ module _ (job : Job) (w : World) (z : ℕ → ballot.World) (fate : ℕ → Opti
       refl
       (subst (OfStage job (stand.Walking b.stay (stand.shown rest)) (record n { walk = rest })) (sym at)
       (record { stay = b.stay; stays = record { within = b.stays.within; calls = b.stays.calls; none_created = b.stays.none_created }; stand = refl }))
-      (λ c. refl) mine_before.uncreated refl refl
+      (λ c. refl) (subst (StaysShaped job.names) e mine_before.shaped) mine_before.uncreated refl refl
       (subst (AtPlan job l p (record n { walk = rest })) (sym at)
       (record { plan = g.plan; at = g.at; keeps = subst (λ (o : Walk). Keeps o g.plan no_latest) e g.keeps; only = (subst (OnlyAsks IsOfNoGroup) e g.only).1 }))
       (heeds_quiet (prints what rest n) (written_all job l (noted (prints what rest n).items)) (grows_by l (written_all job l (noted (prints what rest n).items)) p alive (λ q ne. key_other n.me (effects.printed (l.stands n.me)) l.stands q (λ i. ne (i ∙ own))) refl refl refl) refl refl refl

@@ -10,32 +10,16 @@ ghost use Rattle.fx_fleet.specs.World.{first_world};
 ghost use Rattle.fx_fleet.specs.Runs.{AsksNothing, job_setup, moments_of, rest_bound_of, journal_of};
 ghost use Rattle.fx_legal.specs.Legal.{IsLegal, IsLegalWhole, AllHaveEnded};
 ghost use Rattle.fx_script.specs.Spelling.{stmts_fit};
-ghost use Rattle.fx_calls.specs.Bodies.{AsksNoGroups, AsksNoShifts, AsksParts, AsksSums, is_groupless, is_of_sums};
+ghost use Rattle.fx_calls.specs.Bodies.{AsksNoGroups, is_groupless};
 ghost use Rattle.fx_losses.specs.Losses.{EachEpochHasItsLoss, IsStill};
 
 use fx_walk::laws::all_ranks_have_one_plan;
 
-/// A body that asks nothing asks no parts and no sums, and one that asks nothing but parts, or nothing but sums, asks nothing of data groups.
-/// One that asks nothing but sums asks no shifts, and one that asks nothing but barriers, reductions and agreements asks nothing of data groups.
-pub fn bodies_that_ask_less()
-    ensures nothing { (job : Job) → AsksNothing job → AsksNoGroups job }
-    ensures nothing_of_parts { (job : Job) → AsksNothing job → AsksParts job }
-    ensures parts { (job : Job) → AsksParts job → AsksNoGroups job }
-    ensures nothing_of_sums { (job : Job) → AsksNothing job → AsksSums job }
-    ensures sums { (job : Job) → AsksSums job → AsksNoGroups job }
-    ensures sums_unshifted { (job : Job) → AsksSums job → AsksNoShifts job }
-    ensures unshifted { (job : Job) → AsksNoShifts job → AsksNoGroups job }
-{}
-
-/// A body of statements that can be written, none of them on a data group, asks nothing of data groups.
+/// A body of statements that can be written, none of them on a data group, asks nothing of data groups; and so does a body that asks
+/// nothing at all.
 pub fn groupless_bodies_ask_no_groups()
-    ensures { (job : Job) (room : ℕ) → stmts_fit job.body room ≡ true → list_all is_groupless job.body ≡ true → AsksNoGroups job }
-{}
-
-/// A body of statements that can be written, none of them on a data group, whose calls are barriers and reductions, asks nothing
-/// else.
-pub fn bodies_of_sums_ask_sums()
-    ensures { (job : Job) (room : ℕ) → stmts_fit job.body room ≡ true → list_all is_of_sums job.body ≡ true → AsksSums job }
+    ensures statements { (job : Job) (room : ℕ) → stmts_fit job.body room ≡ true → list_all is_groupless job.body ≡ true → AsksNoGroups job }
+    ensures nothing { (job : Job) → AsksNothing job → AsksNoGroups job }
 {}
 
 /// The journal of an accepted job whose body asks nothing of data groups is legal and tells the whole schedule,
@@ -61,42 +45,42 @@ pub fn journals_show_all_ends()
     all_ranks_have_one_plan();
 }
 
-/// Each epoch of the journal of an accepted job whose body asks nothing but barriers, reductions and agreements has its loss, whatever its events are:
+/// Each epoch of the journal of an accepted job whose body asks nothing of data groups has its loss, whatever its events are:
 /// before it is repaired, a process that had a place in the epoch before it was killed, from epoch 2 on.
 pub fn each_epoch_has_its_loss()
-    ensures { (job : Job) → IsAccepted job → AsksNoShifts job → EachEpochHasItsLoss job (journal_of job) }
+    ensures { (job : Job) → IsAccepted job → AsksNoGroups job → EachEpochHasItsLoss job (journal_of job) }
 {
     all_ranks_have_one_plan();
 }
 
-/// Each process ends where the body asks nothing but barriers and reductions, whatever the events are: behind the tail each that wasn't
-/// killed has ended, and the journal shows an end or a kill of each. Any fuel of a rest but none is enough for that, and any bound from
-/// that of the job on.
+/// Each process ends where the body asks nothing of data groups, whatever the events are: behind the tail each that wasn't killed has
+/// ended, and the journal shows an end or a kill of each. Any fuel of a rest but none is enough for that, and any bound from that of the
+/// job on.
 pub fn all_processes_end()
-    ensures over { (job : Job) → IsAccepted job → AsksSums job
+    ensures over { (job : Job) → IsAccepted job → AsksNoGroups job
         → all_over (job_setup job) (whole (job_setup job) (rest_bound_of job) (bound_of job) (moments_of job)) ≡ true }
-    ensures within { (job : Job) → IsAccepted job → AsksSums job → (fuel : ℕ) → 1 ≤ fuel → (bound : ℕ) → bound_of job ≤ bound
+    ensures within { (job : Job) → IsAccepted job → AsksNoGroups job → (fuel : ℕ) → 1 ≤ fuel → (bound : ℕ) → bound_of job ≤ bound
         → all_over (job_setup job) (whole (job_setup job) fuel bound (moments_of job)) ≡ true }
-    ensures shown { (job : Job) → IsAccepted job → AsksSums job → AllHaveEnded job (journal_of job) }
+    ensures shown { (job : Job) → IsAccepted job → AsksNoGroups job → AllHaveEnded job (journal_of job) }
 {
     all_ranks_have_one_plan();
 }
 
-/// The steps of a rest are enough where the body asks nothing but barriers and reductions: behind each front of the schedule a rest of
-/// that many leaves its process quiet, and in the whole run more of them would change nothing.
+/// The steps of a rest are enough where the body asks nothing of data groups: behind each front of the schedule a rest of that many
+/// leaves its process quiet, and in the whole run more of them would change nothing.
 pub fn rests_come_to_rest()
-    ensures quiet { (job : Job) → IsAccepted job → AsksSums job → (fuel : ℕ) (front more : List Moment) → moments_of job ≡ front ++ more → (p : ℕ)
+    ensures quiet { (job : Job) → IsAccepted job → AsksNoGroups job → (fuel : ℕ) (front more : List Moment) → moments_of job ≡ front ++ more → (p : ℕ)
         → is_quiet (job_setup job) p (rests (job_setup job) (rest_bound_of job) p (all_happen (job_setup job) fuel front (first_world (job_setup job)))) ≡ true }
-    ensures more { (job : Job) → IsAccepted job → AsksSums job → (fuel : ℕ) → rest_bound_of job ≤ fuel → (bound : ℕ)
+    ensures more { (job : Job) → IsAccepted job → AsksNoGroups job → (fuel : ℕ) → rest_bound_of job ≤ fuel → (bound : ℕ)
         → whole (job_setup job) fuel bound (moments_of job) ≡ whole (job_setup job) (rest_bound_of job) bound (moments_of job) }
 {
     all_ranks_have_one_plan();
 }
 
-/// No processes wait for one another for ever where the body asks nothing but barriers and reductions: where nothing is under way in the
-/// world of such a run, all losses are told and no action is enabled, each process that wasn't killed has ended.
+/// No processes wait for one another for ever where the body asks nothing of data groups: where nothing is under way in the world of
+/// such a run, all losses are told and no action is enabled, each process that wasn't killed has ended.
 pub fn still_worlds_are_over()
-    ensures { (job : Job) → IsAccepted job → AsksSums job → (fuel bound : ℕ) → IsStill (job_setup job) (whole (job_setup job) fuel bound (moments_of job))
+    ensures { (job : Job) → IsAccepted job → AsksNoGroups job → (fuel bound : ℕ) → IsStill (job_setup job) (whole (job_setup job) fuel bound (moments_of job))
         → all_over (job_setup job) (whole (job_setup job) fuel bound (moments_of job)) ≡ true }
 {
     all_ranks_have_one_plan();

@@ -1,7 +1,7 @@
 pub mod Written
 pub mod Texts
 pub mod Marks
-pub mod Sums
+pub mod Groupless
 pub mod Legality
 pub mod Runs
 pub mod Ending

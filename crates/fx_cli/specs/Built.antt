@@ -23,7 +23,7 @@ abbrev pub first_in : List Mark → Option Spot
 first_in [] = None
 first_in (m ∷ marks) = if m.built then first_in marks else Some m.spot
 
--- a statement can be run that a rank carries out by itself, a barrier and a reduction; the lines of those in it are lines of their own
+-- a statement can be run that speaks of no data group; the lines of those in it are lines of their own
 abbrev pub is_built : {X : Type 0} → Stmt-F X → Bool
 is_built (Stmt-F.Let spot array value) = true
 is_built (Stmt-F.Set spot counter value) = true
@@ -34,6 +34,8 @@ is_built (Stmt-F.Branch spot test left right body other) = true
 is_built (Stmt-F.Loop spot counter first last body) = true
 is_built (Stmt-F.Barrier spot) = true
 is_built (Stmt-F.Reduce spot o counter array) = true
+is_built (Stmt-F.Agree spot counter array index) = true
+is_built (Stmt-F.Shift spot source target by) = true
 is_built other = false
 
 -- what stands in a statement
@@ -57,7 +59,7 @@ body_marks body = chained (map stmt_marks body)
 abbrev pub first_unbuilt : Job → Option Spot
 first_unbuilt job = first_in (body_marks job.body)
 
--- an agreement inside a loop, behind a barrier
+-- a data group inside a loop, behind a barrier
 in_a_loop : first_in (stmt_marks_level (Stmt-F.Loop (record { line = 8; column = 1 }) (codes "c") (Rattle.fx_script.specs.declared.expr.Expr.TheVariants.Number (pos 0)) (pos 1)
-    (stmt_marks_level (Stmt-F.Barrier (record { line = 9; column = 3 })) ∷ stmt_marks_level (Stmt-F.Agree (record { line = 10; column = 3 }) (codes "c") (codes "a") (pos 0)) ∷ []))) ≡ Some (record { line = 10; column = 3 })
+    (stmt_marks_level (Stmt-F.Barrier (record { line = 9; column = 3 })) ∷ stmt_marks_level (Stmt-F.Commit (record { line = 10; column = 3 }) (pos 0)) ∷ []))) ≡ Some (record { line = 10; column = 3 })
 in_a_loop = refl

@@ -30,7 +30,8 @@ fn first_of(statement: &Stmt) -> Option<Spot>
 {
     match statement {
         Stmt::Let { .. } | Stmt::Set { .. } | Stmt::Print { .. } | Stmt::Register { .. } => None,
-        Stmt::Barrier { .. } | Stmt::Reduce { .. } => None,
+        Stmt::Barrier { .. } | Stmt::Reduce { .. } | Stmt::Agree { .. } | Stmt::Shift { .. } =>
+            None,
         Stmt::RoleOnly { body, .. } => first_of_body(body.as_slice()),
         Stmt::Branch { yes, no, .. } => match no {
             None => first_of_body(yes.as_slice()),

@@ -36,6 +36,12 @@ const JOURNAL_OF_A_BARRIER: &str =
 const AN_AGREEMENT: &str =
     "fenix 1\nranks 2\nspares 0\nseparation 1\narray a 1\ncounter c\nbegin\nagree c a 0\nend\nschedule\nstop\n";
 
+const JOURNAL_OF_AN_AGREEMENT: &str =
+    "join 0 1 start\njoin 1 1 start\nrepaired 1 1 2 full : 0=0 1=1\ninit 1 1 initial 1 1 2 full\nagree 1 1 1 0\nrepaired 0 1 2 full : 0=0 1=1\ninit 0 1 initial 0 0 2 full\nagree 0 1 1 0\nvalue 1 1 1 0\njoin 1 2 final\nvalue 0 1 1 0\njoin 0 2 final\nended 1\nended 0\n";
+
+const A_DATA_GROUP: &str =
+    "fenix 1\nranks 2\nspares 0\nseparation 1\narray a 1\nbegin\nbarrier\ngroup 0 0 0\nend\nschedule\nstop\n";
+
 const SPACED: &str =
     "fenix 1\nranks 1\nspares  0\nseparation 1\narray a 3\n# note\nbegin\nprint a\nprint a\nend\nschedule\nstop\n";
 
@@ -113,9 +119,10 @@ fn texts_are_answered(rt: HostRuntime) -> Result<(), Fail> {
         ("wire", TWO_PRINTS, Status::Done, JOURNAL),
         ("wire", TWO_RANKS, Status::Done, WIRE_OF_TWO),
         ("run", A_BARRIER, Status::Done, JOURNAL_OF_A_BARRIER),
+        ("run", AN_AGREEMENT, Status::Done, JOURNAL_OF_AN_AGREEMENT),
         (
-            "run",
-            AN_AGREEMENT,
+            "wire",
+            A_DATA_GROUP,
             unbuilt(8),
             "fenix: bad job: NotBuilt at 8:1\n",
         ),

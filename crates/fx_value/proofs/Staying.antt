@@ -70,7 +70,7 @@ same_elements : (f : Facts) (state : State) (one other : List ℕ) → IsShaped 
 same_elements f state one other shaped is_one is_other same =
     shaped_length f.names state (array_slot f.names one) shaped ∙ same_declared f.names one other is_one is_other same ∙ sym (shaped_length f.names state (array_slot f.names other) shaped)
 
-length_values : (f : Facts) (value : Expr) (x : Sight) (i : ℕ) (olds : List ℤ) → length (values_from f value x i olds) ≡ length olds
+pub length_values : (f : Facts) (value : Expr) (x : Sight) (i : ℕ) (olds : List ℤ) → length (values_from f value x i olds) ≡ length olds
 length_values f value x i [] = refl
 length_values f value x i (old ∷ olds) = ap suc (length_values f value x (i + 1) olds)
 

@@ -212,25 +212,26 @@ planned_level f (Stmt-F.Loop spot counter first last ts) = planned_rolled f (Stm
     subst (λ (n : ℤ). Keeps (looped f counter body (turns_of from last) (count_of from) false k view state) (plan_looped f counter plan_body (turns_of n last) (count_of n) pk (shared_of view state)) view.latest)
     (uniform_value f first (and_parts (not p.in_when) (expr_uniform f first) keep.0.uniform).1 view state)
     (turns_planned f counter body plan_body (λ k pk alike. planned_list f ts (inside_for p) inside keep.1 k pk alike) (turns_of from last) (count_of from) k pk alike view state))
-planned_level f (Stmt-F.Barrier spot) = planned_rolled f (Stmt-F.Barrier spot) (λ p inside keep k pk alike view state. (refl, refl, refl, λ reply. alike (view_after view reply) state))
-planned_level f (Stmt-F.Reduce spot o counter array) = planned_rolled f (Stmt-F.Reduce spot o counter array) (λ p inside keep k pk alike view state. (refl, refl, refl, λ reply. after_number f counter k pk alike view state reply))
-planned_level f (Stmt-F.Agree spot counter array index) = planned_rolled f (Stmt-F.Agree spot counter array index) (λ p inside keep k pk alike view state. (refl, refl, refl, λ reply. after_number f counter k pk alike view state reply))
+planned_level f (Stmt-F.Barrier spot) = planned_rolled f (Stmt-F.Barrier spot) (λ p inside keep k pk alike view state. (refl, refl, refl, tt, λ reply. alike (view_after view reply) state))
+planned_level f (Stmt-F.Reduce spot o counter array) = planned_rolled f (Stmt-F.Reduce spot o counter array) (λ p inside keep k pk alike view state. (refl, refl, refl, tt, λ reply. after_number f counter k pk alike view state reply))
+planned_level f (Stmt-F.Agree spot counter array index) = planned_rolled f (Stmt-F.Agree spot counter array index) (λ p inside keep k pk alike view state. (refl, refl, refl, tt, λ reply. after_number f counter k pk alike view state reply))
 planned_level f (Stmt-F.Shift spot source target by) = planned_rolled f (Stmt-F.Shift spot source target by)
-    (λ p inside keep k pk alike view state. (refl, refl, refl, λ reply. after_same k pk alike view (shared_of view state) (sets_elements f target state reply.given) (elements_aside f target state reply.given) refl reply.latest))
-planned_level f (Stmt-F.Group spot group start depth) = planned_rolled f (Stmt-F.Group spot group start depth) (λ p inside keep k pk alike view state. (refl, refl, refl, λ reply. alike (view_after view reply) state))
-planned_level f (Stmt-F.Member spot group member array) = planned_rolled f (Stmt-F.Member spot group member array) (λ p inside keep k pk alike view state. (refl, refl, refl, λ reply. alike (view_after view reply) state))
-planned_level f (Stmt-F.Store spot group member subset) = planned_rolled f (Stmt-F.Store spot group member subset) (λ p inside keep k pk alike view state. (refl, refl, refl, λ reply. alike (view_after view reply) state))
-planned_level f (Stmt-F.Commit spot group) = planned_rolled f (Stmt-F.Commit spot group) (λ p inside keep k pk alike view state. (refl, refl, refl, λ reply. alike (view_after view reply) state))
-planned_level f (Stmt-F.CommitBarrier spot group) = planned_rolled f (Stmt-F.CommitBarrier spot group) (λ p inside keep k pk alike view state. (refl, refl, refl, λ reply. alike (view_after view reply) state))
+    (λ p inside keep k pk alike view state. (refl, refl, refl, refl, λ reply. after_same k pk alike view (shared_of view state) (sets_elements f target state reply.given) (elements_aside f target state reply.given) refl reply.latest))
+planned_level f (Stmt-F.Group spot group start depth) = planned_rolled f (Stmt-F.Group spot group start depth) (λ p inside keep k pk alike view state. (refl, refl, refl, tt, λ reply. alike (view_after view reply) state))
+planned_level f (Stmt-F.Member spot group member array) = planned_rolled f (Stmt-F.Member spot group member array) (λ p inside keep k pk alike view state. (refl, refl, refl, tt, λ reply. alike (view_after view reply) state))
+planned_level f (Stmt-F.Store spot group member subset) = planned_rolled f (Stmt-F.Store spot group member subset) (λ p inside keep k pk alike view state. (refl, refl, refl, tt, λ reply. alike (view_after view reply) state))
+planned_level f (Stmt-F.Commit spot group) = planned_rolled f (Stmt-F.Commit spot group) (λ p inside keep k pk alike view state. (refl, refl, refl, tt, λ reply. alike (view_after view reply) state))
+planned_level f (Stmt-F.CommitBarrier spot group) = planned_rolled f (Stmt-F.CommitBarrier spot group) (λ p inside keep k pk alike view state. (refl, refl, refl, tt, λ reply. alike (view_after view reply) state))
 planned_level f (Stmt-F.Restore spot group member stamp) = planned_rolled f (Stmt-F.Restore spot group member stamp)
     (λ p inside keep k pk alike view state. (
       refl,
       ap (λ (n : ℤ). Restore (group_id group) (member_id member) (stamp_at n)) (uniform_value f stamp keep.0.uniform view state),
       refl,
+      tt,
       λ reply. after_same k pk alike view (shared_of view state) (sets_entries f (member_array f group member) state reply.given) (entries_aside f (member_array f group member) state reply.given) refl reply.latest,
     ))
 planned_level f (Stmt-F.Drop spot group stamp) = planned_rolled f (Stmt-F.Drop spot group stamp)
-    (λ p inside keep k pk alike view state. (refl, ap (λ (n : ℤ). Delete (group_id group) (stamp_at n)) (uniform_value f stamp keep.0.uniform view state), refl, λ reply. alike (view_after view reply) state))
+    (λ p inside keep k pk alike view state. (refl, ap (λ (n : ℤ). Delete (group_id group) (stamp_at n)) (uniform_value f stamp keep.0.uniform view state), refl, tt, λ reply. alike (view_after view reply) state))
 
 all_planned : (f : Facts) (s : Stmt) → IsPlanned f s
 all_planned f = ind-Stmt (IsPlanned f) (λ x y is. subst (λ x. IsPlanned f (roll-Stmt x)) is (planned_level f y))

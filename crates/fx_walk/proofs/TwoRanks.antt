@@ -20,15 +20,15 @@ use Rattle.fx_walk.proofs.InStep.{keeps_to_plan}
 
 abbrev plan_next : Plan → Next
 plan_next (Stops counters) = End counters
-plan_next (Meets spot common counters rest) = Meeting (record { spot = spot; common = common; counters = counters })
+plan_next (Meets spot common source counters rest) = Meeting (record { spot = spot; common = common; counters = counters })
 
 none_met : (plan : Plan) → [] ≡ plan_met plan []
 none_met (Stops counters) = refl
-none_met (Meets spot common counters rest) = refl
+none_met (Meets spot common source counters rest) = refl
 
 none_after : (plan : Plan) → plan ≡ plan_after plan []
 none_after (Stops counters) = refl
-none_after (Meets spot common counters rest) = refl
+none_after (Meets spot common source counters rest) = refl
 
 -- ---- a walk along replies
 
@@ -51,14 +51,14 @@ module _ (spot : Spot) (wanted : Wanted) (state : State) (rest : Reply → Walk)
       (unless_inside inside here (met (rest reply) replies) ≡ plan_met plan (unless_inside inside (effect_of (common_of wanted) reply) (effects (rest reply) replies)))
       × Keeps (rest_after (rest reply) replies) (plan_after plan (unless_inside inside (effect_of (common_of wanted) reply) (effects (rest reply) replies))) (latest_after (rest reply) reply.latest replies)
 
-  came : (inside : Bool) (plan : Plan) (latest : List ℤ) → AsksBy inside plan spot (common_of wanted) state latest (λ left r. Keeps (rest r) left r.latest)
+  came : (inside : Bool) (plan : Plan) (latest : List ℤ) → AsksBy inside plan spot wanted state latest (λ left r. Keeps (rest r) left r.latest)
       → (inside ≡ true → reply.latest ≡ latest) → StampsStay (rest reply) reply.latest replies → Came inside plan
   came true plan latest asks same stay =
       let along = later plan reply.latest (subst (λ (l : List ℤ). Keeps (rest (record { given = reply.given; latest = l })) plan l) (sym (same refl)) (asks.1 reply.given)) stay in
       (along.past, along.keeps)
   came false (Stops counters) latest asks same stay = absurd asks
-  came false (Meets at due counters left) latest asks same stay =
-      let along = later (left (number_set (common_of wanted) reply.given) reply.latest) reply.latest (asks.3 reply) stay in
+  came false (Meets at due source counters left) latest asks same stay =
+      let along = later (left (number_set (common_of wanted) reply.given) reply.latest) reply.latest (asks.4 reply) stay in
       (cc (asks.0, asks.1, asks.2, along.past), along.keeps)
 
 along : (w : Walk) (plan : Plan) (latest : List ℤ) → Keeps w plan latest → (replies : List Reply) → StampsStay w latest replies → IsAlong w plan latest replies
@@ -74,22 +74,22 @@ along (Asks place wanted state rest) plan latest keeps (reply ∷ replies) stay 
 
 -- ---- where it next has to do with others
 
-next_asked : (inside : Bool) (plan : Plan) (spot : Spot) (common : Common) (state : State) (latest : List ℤ) (Goes : Plan → Reply → Type 0)
-    → AsksBy inside plan spot common state latest Goes → is_outside (next_at inside (record { spot = spot; common = common; counters = state.counters })) ≡ true
-    → next_at inside (record { spot = spot; common = common; counters = state.counters }) ≡ plan_next plan
-next_asked true plan spot common state latest Goes asks outside = absurd cc
-next_asked false (Stops counters) spot common state latest Goes asks outside = absurd asks
-next_asked false (Meets at due counters rest) spot common state latest Goes asks outside = cc (asks.0, asks.1, asks.2)
+next_asked : (inside : Bool) (plan : Plan) (spot : Spot) (asked : Wanted) (state : State) (latest : List ℤ) (Goes : Plan → Reply → Type 0)
+    → AsksBy inside plan spot asked state latest Goes → is_outside (next_at inside (record { spot = spot; common = common_of asked; counters = state.counters })) ≡ true
+    → next_at inside (record { spot = spot; common = common_of asked; counters = state.counters }) ≡ plan_next plan
+next_asked true plan spot asked state latest Goes asks outside = absurd cc
+next_asked false (Stops counters) spot asked state latest Goes asks outside = absurd asks
+next_asked false (Meets at due source counters rest) spot asked state latest Goes asks outside = cc (asks.0, asks.1, asks.2)
 
 next_ends : (plan : Plan) (state : State) → Keeps (Ends state) plan [] → End state.counters ≡ plan_next plan
 next_ends (Stops counters) state keeps = ap End keeps
-next_ends (Meets spot common counters rest) state keeps = absurd keeps
+next_ends (Meets spot common source counters rest) state keeps = absurd keeps
 
 next_kept : (w : Walk) (plan : Plan) (latest : List ℤ) → Keeps w plan latest → is_outside (next_of w) ≡ true → next_of w ≡ plan_next plan
 next_kept (Ends state) plan latest keeps outside = next_ends plan state keeps
 next_kept (Passes rest) plan latest keeps outside = next_kept rest plan latest keeps outside
 next_kept (Prints printed rest) plan latest keeps outside = next_kept rest plan latest keeps outside
-next_kept (Asks place wanted state rest) plan latest keeps outside = next_asked place.in_when plan place.spot (common_of wanted) state latest _ keeps outside
+next_kept (Asks place wanted state rest) plan latest keeps outside = next_asked place.in_when plan place.spot wanted state latest _ keeps outside
 
 -- ---- the newest stamps
 

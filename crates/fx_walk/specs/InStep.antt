@@ -65,13 +65,13 @@ latest_after (Asks place wanted state rest) latest (reply ∷ replies) = latest_
 -- what a plan has come past with these effects, and what is left of it
 abbrev pub plan_met : Plan → List Effect → List Met
 plan_met (Stops counters) effects = []
-plan_met (Meets spot common counters rest) [] = []
-plan_met (Meets spot common counters rest) (e ∷ es) = record { spot = spot; common = common; counters = counters } ∷ plan_met (rest e.number e.latest) es
+plan_met (Meets spot common source counters rest) [] = []
+plan_met (Meets spot common source counters rest) (e ∷ es) = record { spot = spot; common = common; counters = counters } ∷ plan_met (rest e.number e.latest) es
 
 abbrev pub plan_after : Plan → List Effect → Plan
 plan_after (Stops counters) effects = Stops counters
-plan_after (Meets spot common counters rest) [] = Meets spot common counters rest
-plan_after (Meets spot common counters rest) (e ∷ es) = plan_after (rest e.number e.latest) es
+plan_after (Meets spot common source counters rest) [] = Meets spot common source counters rest
+plan_after (Meets spot common source counters rest) (e ∷ es) = plan_after (rest e.number e.latest) es
 
 -- where a walk next has to do with others: at its end or at a statement outside `when`, if it doesn't wait inside one
 pub data Next : Type 0 where

@@ -1,5 +1,5 @@
 -- The part of a walk that is the same on all ranks, whatever their roles, places and arrays are.
-use Rattle.std.specs.Prelude.{◌≡◌, ℕ, zero, suc, ◌+◌, ℤ, pos, Bool, true, false, if◌then◌else◌, List, [], ◌∷◌, map, slice_set, Option, Some, None}
+use Rattle.std.specs.Prelude.{◌≡◌, ℕ, zero, suc, ◌+◌, ℤ, pos, Bool, true, false, if◌then◌else◌, List, [], ◌∷◌, map, slice_set, get_or, Option, Some, None}
 use Rattle.fx_base.specs.declared.names.GroupId.{GroupId}
 use Rattle.fx_base.specs.declared.names.MemberId.{MemberId}
 use Rattle.fx_base.specs.declared.names.Op.{Op}
@@ -14,7 +14,7 @@ use Rattle.fx_check.specs.Rules.{count_of}
 use Rattle.fx_walk.specs.declared.action.View.{View}
 use Rattle.fx_walk.specs.declared.wanted.Wanted.{Wanted}
 use Rattle.fx_walk.specs.declared.wanted.Wanted.TheVariants as wanted
-use Rattle.fx_walk.specs.State.{State, counter_slot}
+use Rattle.fx_walk.specs.State.{State, counter_slot, array_slot}
 use Rattle.fx_walk.specs.Values.{Sight, value_of, holds}
 use Rattle.fx_walk.specs.Walk as walked
 
@@ -86,10 +86,11 @@ number_set other given = None
 -- ---- plans
 
 -- What is left of a walk for all ranks alike, blocks of `when` aside: the counters at its end; or a place of the text, what is asked
--- there, and the counters there, and what is left by the number that is set and the newest stamps after it.
+-- there, the slot of the array that a shift gives away, and the counters there, and what is left by the number that is set and the
+-- newest stamps after it.
 pub data Plan : Type 0 where
   Stops : (counters : List ℤ) → Plan
-  Meets : (spot : Spot) (common : Common) (counters : List ℤ) (rest : Option ℤ → List ℤ → Plan) → Plan
+  Meets : (spot : Spot) (common : Common) (source : Option ℕ) (counters : List ℤ) (rest : Option ℤ → List ℤ → Plan) → Plan
 
 abbrev pub PlanOnward : Type 0
 PlanOnward = Shared → Plan
@@ -116,12 +117,16 @@ abbrev pub plan_looped : Facts → List ℕ → PlanMeaning → ℕ → ℕ → 
 plan_looped f counter body zero value onward shared = onward shared
 plan_looped f counter body (suc left) value onward shared = body (plan_looped f counter body left (value + 1) onward) (set_to f counter shared (pos value))
 
+abbrev pub meets_from : Spot → Common → Option ℕ → PlanMeaning
+meets_from spot common source onward shared = Meets spot common source shared.counters (λ number latest. onward (record shared { latest = latest }))
+
+-- no array is given away
 abbrev pub meets : Spot → Common → PlanMeaning
-meets spot common onward shared = Meets spot common shared.counters (λ number latest. onward (record shared { latest = latest }))
+meets spot common = meets_from spot common None
 
 -- the number that is given is set in a counter
 abbrev pub meets_for : Facts → Spot → Common → List ℕ → PlanMeaning
-meets_for f spot common counter onward shared = Meets spot common shared.counters (λ number latest. onward (record (set_if f counter shared number) { latest = latest }))
+meets_for f spot common counter onward shared = Meets spot common None shared.counters (λ number latest. onward (record (set_if f counter shared number) { latest = latest }))
 
 -- the plan of a statement: only a set, a branch, a loop and what is asked outside `when` count
 abbrev pub plan_level : Facts → Stmt-F PlanMeaning → PlanMeaning
@@ -137,7 +142,7 @@ plan_level f (Stmt-F.Loop spot counter first last body) onward shared =
 plan_level f (Stmt-F.Barrier spot) onward shared = meets spot Barrier onward shared
 plan_level f (Stmt-F.Reduce spot o counter array) onward shared = meets_for f spot (Reduce o) counter onward shared
 plan_level f (Stmt-F.Agree spot counter array index) onward shared = meets_for f spot Agree counter onward shared
-plan_level f (Stmt-F.Shift spot source target by) onward shared = meets spot (Shift (count_of by)) onward shared
+plan_level f (Stmt-F.Shift spot source target by) onward shared = meets_from spot (Shift (count_of by)) (Some (array_slot f.names source)) onward shared
 plan_level f (Stmt-F.Group spot group start depth) onward shared = meets spot (Group (walked.group_id group) (walked.stamp_at start) (count_of depth)) onward shared
 plan_level f (Stmt-F.Member spot group member array) onward shared = meets spot (Attach (walked.group_id group) (walked.member_id member)) onward shared
 plan_level f (Stmt-F.Store spot group member subset) onward shared = meets spot (Store (walked.group_id group) (walked.member_id member)) onward shared
@@ -162,24 +167,31 @@ plan_of f statements = plans f statements (λ shared. Stops shared.counters)
 -- the walk's end is the plan's, with its counters
 abbrev pub StopsAs : Plan → State → Type 0
 StopsAs (Stops counters) state = state.counters ≡ counters
-StopsAs (Meets spot common counters rest) state = ⊥
+StopsAs (Meets spot common source counters rest) state = ⊥
 
--- the statement is the plan's next: its place, its common operands, the counters there
-abbrev pub MeetsAs : Plan → Spot → Common → State → (Plan → walked.Reply → Type 0) → Type 0
-MeetsAs (Stops counters) spot common state Keeps = ⊥
-MeetsAs (Meets at due counters rest) spot common state Keeps =
-    (spot ≡ at) × (common ≡ due) × (state.counters ≡ counters) × ((reply : walked.Reply) → Keeps (rest (number_set common reply.given) reply.latest) reply)
+-- a shift gives away the elements of the array in this slot
+abbrev pub GivesFrom : Option ℕ → Wanted → State → Type 0
+GivesFrom (Some slot) (wanted.Shift by elements) state = elements ≡ get_or state.arrays slot []
+GivesFrom None (wanted.Shift by elements) state = ⊥
+GivesFrom source other state = Unit {0}
+
+-- the statement is the plan's next: its place, its common operands, the array that it gives away, the counters there
+abbrev pub MeetsAs : Plan → Spot → Wanted → State → (Plan → walked.Reply → Type 0) → Type 0
+MeetsAs (Stops counters) spot asked state Keeps = ⊥
+MeetsAs (Meets at due source counters rest) spot asked state Keeps =
+    (spot ≡ at) × (common_of asked ≡ due) × (state.counters ≡ counters) × GivesFrom source asked state
+    × ((reply : walked.Reply) → Keeps (rest (number_set (common_of asked) reply.given) reply.latest) reply)
 
 -- A statement inside `when` is asked beside the plan, whatever it is given, and leaves the newest stamps as they are. Any other is the
 -- next of the plan, and what is left of the plan is the same for all that are given the same number and the same stamps.
-abbrev pub AsksBy : Bool → Plan → Spot → Common → State → List ℤ → (Plan → walked.Reply → Type 0) → Type 0
-AsksBy true plan spot common state latest Keeps = (may_stand_in_when common ≡ true) × ((given : walked.Given) → Keeps plan (record { given = given; latest = latest }))
-AsksBy false plan spot common state latest Keeps = MeetsAs plan spot common state Keeps
+abbrev pub AsksBy : Bool → Plan → Spot → Wanted → State → List ℤ → (Plan → walked.Reply → Type 0) → Type 0
+AsksBy true plan spot asked state latest Keeps = (may_stand_in_when (common_of asked) ≡ true) × ((given : walked.Given) → Keeps plan (record { given = given; latest = latest }))
+AsksBy false plan spot asked state latest Keeps = MeetsAs plan spot asked state Keeps
 
--- A walk asks what the plan has, at the same places with the same counters, and ends where the plan ends.
+-- A walk asks what the plan has, at the same places with the same counters, gives away the same arrays, and ends where the plan ends.
 abbrev pub Keeps : walked.Walk → Plan → List ℤ → Type 0
 Keeps (walked.Ends state) plan latest = StopsAs plan state
 Keeps (walked.Passes rest) plan latest = Keeps rest plan latest
 Keeps (walked.Prints printed rest) plan latest = Keeps rest plan latest
 Keeps (walked.Asks place wanted state rest) plan latest =
-    AsksBy place.in_when plan place.spot (common_of wanted) state latest (λ left reply. Keeps (rest reply) left reply.latest)
+    AsksBy place.in_when plan place.spot wanted state latest (λ left reply. Keeps (rest reply) left reply.latest)

@@ -3,7 +3,7 @@ use Rattle.std.specs.Prelude.{All}
 use Rattle.std.proofs.lemmas.Result.{err_from_is_err_and}
 use Rattle.fx_script.proofs.HasTexts.{written_if_has_text}
 use Rattle.fx_sched.specs.Moments.{IsAmong}
-use Rattle.fx_cli.proofs.Sums.{asks_sums, sums_are_carried}
+use Rattle.fx_cli.proofs.Groupless.{asks_no_groups, calls_are_carried}
 use Rattle.fx_cli.proofs.Runs.{run_writes, unwritten}
 use Rattle.fx_cli.proofs.run.write_run.Goals as goal
 
@@ -25,11 +25,11 @@ pub returns-in_err-run_all : goal.returns-in_err-run_all
 returns-in_err-run_all g c =
     let p = err_from_is_err_and c.from_residual-in_err-run_all.result c.from_residual-in_err-run_all.ensures.1 in
     rw (p.1, p.2) (run_writes c.args.job.now c.args.shown _ _ (g.K.Sink.state c.args.sink.now) (g.K.Sink.state c.run_all.new.sink) c.in_ok-moments.moments c.bound.result
-    (Err c.in_err-run_all.field-0.0) (sums_are_carried c.args.job.now (asks_sums c.args.job.now (written_if_has_text c.args.job.now c.requires.has_text).writable c.requires.built))
+    (Err c.in_err-run_all.field-0.0) (calls_are_carried c.args.job.now (asks_no_groups c.args.job.now (written_if_has_text c.args.job.now c.requires.has_text).writable c.requires.built))
     c.in_ok-world.ensures.begins c.in_ok-moments.ensures.exact c.bound.ensures.same c.in_err-run_all.ensures.goes)
 
 pub returns : goal.returns
 returns g c =
     run_writes c.args.job.now c.args.shown _ _ (g.K.Sink.state c.args.sink.now) (g.K.Sink.state c.run_all.new.sink) c.in_ok-moments.moments c.bound.result
-    (Ok c.in_ok-run_all.field-0) (sums_are_carried c.args.job.now (asks_sums c.args.job.now (written_if_has_text c.args.job.now c.requires.has_text).writable c.requires.built))
+    (Ok c.in_ok-run_all.field-0) (calls_are_carried c.args.job.now (asks_no_groups c.args.job.now (written_if_has_text c.args.job.now c.requires.has_text).writable c.requires.built))
     c.in_ok-world.ensures.begins c.in_ok-moments.ensures.exact c.bound.ensures.same c.in_ok-run_all.ensures.goes
