@@ -1,6 +1,7 @@
 //! What the processes send to one another, and the links that carry it.
 #![tactic(auto)]
 
+mod held;
 pub mod laws;
 mod links;
 mod message;
@@ -8,6 +9,7 @@ mod queue;
 mod row;
 mod slot;
 
+pub use held::Held;
 pub use links::Links;
 pub use message::{Known, Message};
 pub use slot::{Slot, Slots};

@@ -1,5 +1,6 @@
 ghost use Rattle.std.specs.Prelude.{◌≡◌, IfOk};
 
+use crate::held::Held;
 use crate::slot::{Slot, Slots};
 use fx_base::{CallNo, Copied, Elems, Epoch, NoMemory, Seats, Stamp, StampShares, Stamps};
 
@@ -27,12 +28,6 @@ impl Known {
             comm: self.comm.copy()?,
             stamps: self.stamps.copy()?,
         })
-    }
-}
-
-impl Copied for Known {
-    fn copied(&self) -> Result<Self, NoMemory> {
-        self.copy()
     }
 }
 
@@ -80,7 +75,7 @@ pub enum Message {
     Tell {
         e: Epoch,
         k: CallNo,
-        known: Option<Known>,
+        known: Option<Held>,
     },
     /// What the sender can add to make the receiver's snapshots again, by stamp; no bytes where it can't
     /// add anything.

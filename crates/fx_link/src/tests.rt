@@ -58,9 +58,9 @@ fn closing_one_link_leaves_the_others(rt: HostRuntime) -> Result<(), Fail> {
 fn tell_of(message: &Message) -> Option<(Stamp, Option<Stamp>)> {
     match message {
         Message::Tell {
-            known: Some(known),
+            known: Some(held),
             ..
-        } => Some((known.next, known.stamps.nth(0).copied())),
+        } => Some((held.get().next, held.get().stamps.nth(0).copied())),
         _ => None,
     }
 }
@@ -78,7 +78,7 @@ fn a_message_is_copied(rt: HostRuntime) -> Result<(), Fail> {
     let tell = Message::Tell {
         e: Epoch(3),
         k: CallNo(4),
-        known: Some(known),
+        known: Some(Held::new(rt.alloc(), known)?),
     };
     assert_eq!(rt; tell_of(&tell.copy()?), Some((Stamp(8), Some(Stamp(7)))));
     Ok(())

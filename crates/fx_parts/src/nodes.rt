@@ -5,7 +5,7 @@ use crate::jobs::{TWO_RANKS, job_of};
 use fx_base::{CallNo, Elems, Epoch, Ident, Proc, Seats, Seq, Stamp, StampShares, Stamps};
 use fx_flow::Flow;
 use fx_item::{Item, Items};
-use fx_link::{Known, Message, Slot, Slots};
+use fx_link::{Held, Known, Message, Slot, Slots};
 use fx_node::{Moved, Node, Outbox};
 use std::alloc::Global;
 use std::test::Fail;
@@ -77,7 +77,7 @@ fn estimate(alloc: Global, e: Epoch, k: CallNo) -> Result<Message, Fail> {
 }
 
 fn tell(alloc: Global, e: Epoch, k: CallNo) -> Result<Message, Fail> {
-    let known = Some(known_of(alloc)?);
+    let known = Some(Held::new(alloc, known_of(alloc)?)?);
     Ok(Message::Tell { e, k, known })
 }
 

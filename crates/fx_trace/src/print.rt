@@ -9,7 +9,7 @@ use crate::list::Tail;
 use crate::rows::{item_rows, message_rows};
 use fx_base::{Bytes, Elems, Epoch, NoMemory, Proc};
 use fx_item::Item;
-use fx_link::{Known, Message};
+use fx_link::{Held, Known, Message};
 use fx_text::put_word;
 
 /// Prints the line of an item, without a line end, at the end of `out`.
@@ -98,23 +98,30 @@ fn put_message(out: &mut Bytes, message: &Message) -> Result<(), NoMemory>
 }
 
 // What a process says that it holds, each word behind a space.
-fn put_holding(out: &mut Bytes, known: &Option<Known>) -> Result<(), NoMemory>
-    ensures ok { OnOk result (out.new ≡ out.old ++ holding_text known.now) }
+fn put_holding(out: &mut Bytes, held: &Option<Held>) -> Result<(), NoMemory>
+    ensures ok { OnOk result (out.new ≡ out.old ++ holding_text held.now) }
     ensures keeps { Keeps out.old out.new }
 {
-    match known {
+    match held {
         None => put_spaced_row(out, b"unknown", &[], Tail::Nothing),
-        Some(known) => put_spaced_row(
-            out,
-            b"known",
-            &[
-                Field::Epoch(&known.created),
-                Field::Stamp(&known.next),
-                Field::Seats(&known.comm),
-            ],
-            Tail::Stamps(&known.stamps),
-        ),
+        Some(held) => put_known(out, held.get()),
     }
+}
+
+fn put_known(out: &mut Bytes, known: &Known) -> Result<(), NoMemory>
+    ensures ok { OnOk result (out.new ≡ out.old ++ holding_text (Some known.now)) }
+    ensures keeps { Keeps out.old out.new }
+{
+    put_spaced_row(
+        out,
+        b"known",
+        &[
+            Field::Epoch(&known.created),
+            Field::Stamp(&known.next),
+            Field::Seats(&known.comm),
+        ],
+        Tail::Stamps(&known.stamps),
+    )
 }
 
 // A row of fields behind the word that begins it.

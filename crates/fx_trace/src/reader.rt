@@ -12,7 +12,7 @@ use crate::shape;
 use crate::table::LineTable;
 use fx_item::Item;
 use fx_lines::ItemFault;
-use fx_link::{Known, Message};
+use fx_link::{Held, Known, Message};
 use std::alloc::Global;
 
 /// The item that a line tells, without its line end.
@@ -137,7 +137,7 @@ impl Row for Message {
 }
 
 /// What a process says that it holds.
-impl Row for Option<Known> {
+impl Row for Option<Held> {
     ghost form = { tabled holdings };
 
     ghost width = { 5 };
@@ -151,12 +151,13 @@ impl Row for Option<Known> {
             Some(word) if is_word(word, b"known") => {
                 let (created, (next, (comm, stamps))) =
                     <row_type!(Epoch, Stamp, Seats; Stamps)>::read(alloc, first + 1, words)?;
-                Ok(Some(Known {
+                let known = Known {
                     created,
                     next,
                     comm,
                     stamps,
-                }))
+                };
+                Ok(Some(Held::new(alloc, known)?))
             }
             _ => Err(no_such_kind()),
         }

@@ -15,4 +15,4 @@ pub type Number = i64;
 
 pub type Warning = bool;
 
-pub type Known = Option<fx_link::Known>;
+pub type Known = Option<fx_link::Held>;
