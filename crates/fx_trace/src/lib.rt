@@ -16,6 +16,6 @@ mod table;
 
 pub use fx_item::{Answer, Item, Refusable};
 pub use fx_lines::ItemFault;
-pub use print::print_item;
+pub use print::{print_delivery, print_item, print_send};
 pub use read::ReadItem;
 pub use reader::read_item;

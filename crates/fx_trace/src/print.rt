@@ -24,6 +24,34 @@ pub fn print_item(item: &Item, out: &mut Bytes) -> Result<(), NoMemory>
     put_item(out, item)
 }
 
+/// Prints the line of a message that one process sends to another, as `print_item` does, with no item made of it.
+pub fn print_send(p: Proc, q: Proc, message: &Message, out: &mut Bytes) -> Result<(), NoMemory>
+    ensures ok { OnOk result (out.new ≡ out.old ++ line_of (Item.Send p q message.now)) }
+    ensures keeps { Keeps out.old out.new }
+{
+    put_row(
+        out,
+        b"send",
+        &[Field::Process(&p), Field::Process(&q)],
+        Tail::Nothing,
+    )?;
+    put_message(out, message)
+}
+
+/// Prints the line of a message of one process that another receives, as `print_item` does, with no item made of it.
+pub fn print_delivery(p: Proc, q: Proc, message: &Message, out: &mut Bytes) -> Result<(), NoMemory>
+    ensures ok { OnOk result (out.new ≡ out.old ++ line_of (Item.Deliver p q message.now)) }
+    ensures keeps { Keeps out.old out.new }
+{
+    put_row(
+        out,
+        b"deliver",
+        &[Field::Process(&p), Field::Process(&q)],
+        Tail::Nothing,
+    )?;
+    put_message(out, message)
+}
+
 // The arms that take a value apart: a row for each kind, with its word, its fields and what ends it.
 macro_rules! put_arms {
     ({ $put:ident, $out:ident, $value:ident, $type:ident } $($number:literal $kind:ident $word:literal ($($field:ident: $shape:ident),*) $($last:ident: $end:ident)?;)*) => {
