@@ -30,7 +30,7 @@ use Rattle.fx_link.specs.declared.message.Message.{Message}
 use Rattle.fx_link.specs.declared.message.Message.TheVariants as message
 use Rattle.fx_machine.specs.Asking.{entered, enters, enters_shift, part}
 use Rattle.fx_machine.specs.Calls.{in_asked_call, in_call}
-use Rattle.fx_machine.specs.Gathering.{in_gathering, passes, returns_elements, returns_number, target_of}
+use Rattle.fx_machine.specs.Gathering.{are_gathered, gathered, gathering_error, in_gathering, passes, returns_elements, returns_number, target_of}
 use Rattle.fx_machine.specs.Groups.{Group, newest_stamp}
 use Rattle.fx_machine.specs.Messages.{message_of}
 use Rattle.fx_machine.specs.Nodes as node
@@ -39,6 +39,8 @@ use Rattle.fx_machine.specs.Numbers.{call_no, epoch_no, of_each_below, proc}
 use Rattle.fx_machine.specs.Steps.{next}
 use Rattle.fx_machine.specs.Texts.{Text}
 use Rattle.fx_machine.specs.Waits.{ByLeaving, ByLoss, returns_error}
+use Rattle.fx_node.specs.Glancing.{IsSeen}
+use Rattle.fx_node.specs.declared.glance.Glance.TheVariants as glance
 use Rattle.fx_node.specs.Asking.{AsksSuch, OnlyCarried, gathers_parts, is_agreement, is_carried, share_of, to_seats}
 use Rattle.fx_node.specs.declared.node.Moved.{Moved}
 use Rattle.fx_node.specs.declared.node.Moved.TheVariants as moved
@@ -505,7 +507,43 @@ gathers_so job c after n w known answer said sent sent' told told' h is asked st
     let acts : in_call (job_setup job) n w rest node.Gathering ≡ acts_by n w rest answer = sym (front_so job n w rest only) ∙ answers known n w rest there ∙ ap (acts_by n w rest) (sym same) in
     subst (λ (a : Option Act). Steps job n a said after sent sent' told told') (sym acts) (goes place state rest at there)))
 
+-- the step of a node that gathers, by the action that is enabled
+gathers_by : (job : Job) (c after : Standing) (n : Node) (w : Wanted) (said : Moved) (sent sent' : List (Proc × Message)) (told told' : List Item)
+    → IsNodeOf job c n → c.stage ≡ stage.Gathering → ((walk : Walk) → DoesRest c.view walk c.flow → AsksFor walk w)
+    → ((place : TextPlace) (state : State) (rest : Reply → Walk) → n.walk ≡ Asks place w state rest → gathers_parts w ≡ true → Steps job n (in_gathering n w rest) said after sent sent' told told')
+    → Steps job n (next (job_setup job) n) said after sent sent' told told'
+gathers_by job c after n w said sent sent' told told' h is asked goes =
+    let here = gathers_at job c n is h in
+    by_stage job after n (node.Calling node.Gathering) said sent sent' told told' here.0
+    (of_asked n.walk w (λ (walk : Walk). Steps job n (in_asked_call (job_setup job) n node.Gathering walk) said after sent sent' told told') (asked n.walk here.1.along.does)
+    (λ place state rest at.
+    let only : gathers_parts w ≡ true = subst (AsksSuch gathers_parts) at here.1.asks in
+    subst (λ (a : Option Act). Steps job n a said after sent sent' told told') (front_so job n w rest only) (goes place state rest at only)))
+
+-- a barrier whose parts are there passes
+pub passes_whole : (job : Job) (c after : Standing) (n : Node) (w : Wanted) (said : Moved) (sent sent' : List (Proc × Message)) (told told' : List Item)
+    → IsNodeOf job c n → c.stage ≡ stage.Gathering → w ≡ wanted.Barrier → ((walk : Walk) → DoesRest c.view walk c.flow → AsksFor walk w) → (gathers_parts w ≡ true → are_gathered n w ≡ true)
+    → ((place : TextPlace) (state : State) (rest : Reply → Walk) → n.walk ≡ Asks place w state rest → Steps job n (Some (passes n rest)) said after sent sent' told told')
+    → Steps job n (next (job_setup job) n) said after sent sent' told told'
+passes_whole job c after n w said sent sent' told told' h is barrier asked whole goes =
+    gathers_by job c after n w said sent sent' told told' h is asked (λ place state rest at only.
+    let all : are_gathered n w ≡ true = whole only in
+    let acts : in_gathering n w rest ≡ Some (passes n rest) =
+    ap (λ (b : Bool). if b then gathered n w rest else option_map (returns_error n) (gathering_error n w)) all ∙ ap (λ (v : Wanted). gathered n v rest) barrier in
+    subst (λ (a : Option Act). Steps job n a said after sent sent' told told') (sym acts) (goes place state rest at))
+
 -- it waits on
 pub waits_so : (job : Job) (c : Standing) (n : Node) (sent : List (Proc × Message)) (told : List Item) → IsNodeOf job c n → c.stage ≡ stage.Gathering → Steps job n None moved.Quiet c sent sent told told
 waits_so job c n sent told h is =
     record { says = sym (ap (λ (s : node.Stage). if node.is_over s then moved.Ended else moved.Quiet) (gathers_at job c n is h).0); node = h; sends = refl; items = refl }
+
+-- a part is still to come
+pub waits_at : (job : Job) (c : Standing) (n : Node) (w : Wanted) (sent : List (Proc × Message)) (told : List Item) → IsNodeOf job c n → c.stage ≡ stage.Gathering
+    → ((walk : Walk) → DoesRest c.view walk c.flow → AsksFor walk w) → (gathers_parts w ≡ true → IsSeen glance.Waiting n w)
+    → Steps job n (next (job_setup job) n) moved.Quiet c sent sent told told
+waits_at job c n w sent told h is asked seen =
+    gathers_by job c c n w moved.Quiet sent sent told told h is asked (λ place state rest at only.
+    let here = seen only in
+    let acts : in_gathering n w rest ≡ None =
+    ap (λ (b : Bool). if b then gathered n w rest else option_map (returns_error n) (gathering_error n w)) here.0 ∙ ap (option_map (returns_error n)) here.1 in
+    subst (λ (a : Option Act). Steps job n a moved.Quiet c sent sent told told) (sym acts) (waits_so job c n sent told h is))

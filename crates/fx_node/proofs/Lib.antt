@@ -1,5 +1,6 @@
 mod Acts
 pub mod Agreeing
+pub mod Glancing
 mod Begun
 pub mod Calling
 pub mod Deciding

@@ -1,4 +1,5 @@
 pub mod Agreeing
+pub mod Glancing
 pub mod Asking
 pub mod Standing
 pub mod Stepping

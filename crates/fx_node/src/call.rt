@@ -7,11 +7,11 @@ ghost use Rattle.fx_coll.specs.Machine.{StandsFor, values_in};
 ghost use Rattle.fx_comm.specs.Seats.{place_in};
 ghost use Rattle.fx_base.specs.declared.names.Proc.{Proc};
 ghost use Rattle.fx_fleet.specs.Runs.{job_setup};
-ghost use Rattle.fx_flow.specs.Flowing.{TellsNeed, WantsElements, WantsNumber, next_of};
+ghost use Rattle.fx_flow.specs.Flowing.{AsksFor, DoesRest, TellsNeed, WantsElements, WantsNumber, next_of};
 ghost use Rattle.fx_inbox.specs.Keeping.{part_from};
 ghost use Rattle.fx_link.specs.declared.message.Message.{Message};
 ghost use Rattle.fx_link.specs.declared.message.Message.TheVariants as message;
-ghost use Rattle.fx_machine.specs.Gathering.{due_from, gathered, passes, returns_elements, returns_number, source_of, target_of};
+ghost use Rattle.fx_machine.specs.Gathering.{are_gathered, due_from, gathered, passes, returns_elements, returns_number, source_of, target_of};
 ghost use Rattle.fx_machine.specs.Numbers.{call_no, epoch_no};
 ghost use Rattle.fx_machine.specs.Nodes as defined;
 ghost use Rattle.fx_machine.specs.Reading as reading;
@@ -30,6 +30,7 @@ ghost use Rattle.fx_walk.specs.declared.action.At.TheVariants as at;
 ghost use Rattle.fx_walk.specs.declared.wanted.Wanted.{Wanted as Asked};
 ghost use Rattle.fx_walk.specs.declared.wanted.Wanted.TheVariants as wanted;
 
+use crate::glance::Glance;
 use crate::node::{Moved, Node, Outbox};
 use crate::stage::Stage;
 use fx_base::{CallNo, Elems, NoMemory, Op, Place, Proc};
@@ -226,9 +227,57 @@ impl Node {
         ensures of_all { processes self.new ≡ processes self.old }
     {
         let wanted = self.flow.wanted(&self.view)?;
-        let known = self.known_of(place, &wanted)?;
+        match self.glance(place, &wanted) {
+            Glance::Whole => self.go_on_whole(place, &wanted, items),
+            Glance::Waiting => Ok(Moved::Quiet),
+            Glance::Unclear => self.settle(place, &wanted, items),
+        }
+    }
+
+    // All parts are there. A barrier makes nothing of them.
+    fn go_on_whole(
+        &mut self,
+        place: Place,
+        wanted: &Wanted,
+        items: &mut Items,
+    ) -> Result<Moved, NoMemory>
+        requires gathering { self.old.stage ≡ Stage.Gathering }
+        requires outward { next_of self.old.flow ≡ at.Outward }
+        requires there { place_in self.old.comm self.old.me ≡ Some place.0 }
+        requires below { place.0 < length self.old.comm }
+        requires asked { (walk : Walk) → DoesRest self.old.view walk self.old.flow → AsksFor walk wanted.now }
+        requires need { TellsNeed self.old.flow wanted.now }
+        requires whole { (job : Job) (n : defined.Node) → IsNodeOf job self.old n → gathers_parts wanted.now ≡ true → are_gathered n wanted.now ≡ true }
+        ensures steps { IfOk result (λ moved. (job : Job) (n : defined.Node) (sends : List (Proc × Message)) → IsNodeOf job self.old n
+            → Steps job n (next (job_setup job) n) moved self.new sends sends items.old items.new) }
+        ensures of_all { processes self.new ≡ processes self.old }
+    {
+        match wanted {
+            Wanted::Barrier => self.pass(items),
+            _ => self.settle(place, wanted, items),
+        }
+    }
+
+    // As the parts stand that came, each of which is taken.
+    fn settle(
+        &mut self,
+        place: Place,
+        wanted: &Wanted,
+        items: &mut Items,
+    ) -> Result<Moved, NoMemory>
+        requires gathering { self.old.stage ≡ Stage.Gathering }
+        requires outward { next_of self.old.flow ≡ at.Outward }
+        requires there { place_in self.old.comm self.old.me ≡ Some place.0 }
+        requires below { place.0 < length self.old.comm }
+        requires asked { (walk : Walk) → DoesRest self.old.view walk self.old.flow → AsksFor walk wanted.now }
+        requires need { TellsNeed self.old.flow wanted.now }
+        ensures steps { IfOk result (λ moved. (job : Job) (n : defined.Node) (sends : List (Proc × Message)) → IsNodeOf job self.old n
+            → Steps job n (next (job_setup job) n) moved self.new sends sends items.old items.new) }
+        ensures of_all { processes self.new ≡ processes self.old }
+    {
+        let known = self.known_of(place, wanted)?;
         match known.poll() {
-            CollPoll::Done => self.finish(place, &wanted, &known, items),
+            CollPoll::Done => self.finish(place, wanted, &known, items),
             CollPoll::Failed(lost) => {
                 let who = self.comm.proc_at(Place(lost));
                 self.fail(who, items)
@@ -423,8 +472,8 @@ impl Node {
         }
     }
 
-    // Whether a process is present, and has joined the next epoch.
-    fn has_left(&self, who: u8) -> bool
+    /// Whether a process is present, and has joined the next epoch.
+    pub(crate) fn has_left(&self, who: u8) -> bool
         ensures { (job : Job) (n : defined.Node) → IsNodeOf job self.now n → result ≡ reading.has_left n who }
     {
         for member in self.present.as_slice() {
@@ -487,7 +536,7 @@ fn own_part(wanted: &Wanted) -> Result<Part, NoMemory>
 }
 
 // How many numbers are due from a place to one's own, among so many.
-fn due(wanted: &Wanted, places: u8, own: Place, one: Place) -> usize
+pub(crate) fn due(wanted: &Wanted, places: u8, own: Place, one: Place) -> usize
     requires { own.0 < places }
     ensures { result ≡ due_from wanted.now places own.0 one.0 }
 {

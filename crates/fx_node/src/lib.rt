@@ -3,6 +3,7 @@
 
 mod agree;
 mod call;
+mod glance;
 mod node;
 mod stage;
 

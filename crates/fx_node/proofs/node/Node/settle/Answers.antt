@@ -8,11 +8,11 @@ use Rattle.fx_node.specs.Standing.{Standing}
 use Rattle.fx_node.specs.Stepping.{Steps}
 use Rattle.fx_walk.specs.Walk.{Walk}
 use Rattle.fx_node.proofs.Telling.{if_ok}
-use Rattle.fx_node.proofs.node.Node.go_on.Goals as goal
+use Rattle.fx_node.proofs.node.Node.settle.Goals as goal
 
 pub returns-in-Done-clause-steps : goal.returns-in-Done-clause-steps
 returns-in-Done-clause-steps c = if_ok c.finish.result _ _ (λ moved returns. λ job n sends is.
-    gathers_so job c.args.self.now c.finish.new.self n c.in_ok-wanted.wanted c.in_ok-known.known _ moved sends sends c.args.items.now c.finish.new.items is c.requires.gathering (subst (λ (s : Standing). (walk : Walk) → DoesRest s.view walk s.flow → AsksFor walk c.in_ok-wanted.wanted) c.self.view_is c.in_ok-wanted.ensures.asked) (c.in_ok-known.ensures.stands job n is) (sym c.in-Done.is ∙ c.poll.ensures.answers) (λ place state rest at there. returns job n sends place state rest is at there)) c.finish.ensures.returns
+    gathers_so job c.args.self.now c.finish.new.self n c.args.wanted.now c.in_ok-known.known _ moved sends sends c.args.items.now c.finish.new.items is c.requires.gathering c.requires.asked (c.in_ok-known.ensures.stands job n is) (sym c.in-Done.is ∙ c.poll.ensures.answers) (λ place state rest at there. returns job n sends place state rest is at there)) c.finish.ensures.returns
 
 pub proc_at-who-requires : goal.proc_at-who-requires
 proc_at-who-requires c =
@@ -23,7 +23,7 @@ proc_at-who-requires c =
 
 pub returns-in-Failed-clause-steps : goal.returns-in-Failed-clause-steps
 returns-in-Failed-clause-steps c = if_ok c.fail.result _ _ (λ moved fails. λ job n sends is.
-    gathers_so job c.args.self.now c.fail.new.self n c.in_ok-wanted.wanted c.in_ok-known.known _ moved sends sends c.args.items.now c.fail.new.items is c.requires.gathering (subst (λ (s : Standing). (walk : Walk) → DoesRest s.view walk s.flow → AsksFor walk c.in_ok-wanted.wanted) c.self.view_is c.in_ok-wanted.ensures.asked) (c.in_ok-known.ensures.stands job n is) (sym c.in-Failed.is ∙ c.poll.ensures.answers) (λ place state rest at there.
+    gathers_so job c.args.self.now c.fail.new.self n c.args.wanted.now c.in_ok-known.known _ moved sends sends c.args.items.now c.fail.new.items is c.requires.gathering c.requires.asked (c.in_ok-known.ensures.stands job n is) (sym c.in-Failed.is ∙ c.poll.ensures.answers) (λ place state rest at there.
     subst (λ (p : ℕ). Steps job n (Some (returns_error n (ByLoss p))) moved c.fail.new.self sends sends c.args.items.now c.fail.new.items)
     (sym (proc_there n c.self.inside.comm c.in-Failed.lost c.proc_at-who.result (is.comm ∙ ap (λ (s : Standing). s.comm) (sym c.self.view_is)) c.proc_at-who.ensures.there)) (fails job n sends is))) c.fail.ensures.fails
 
@@ -36,10 +36,10 @@ proc_at-who-requires-in-Revoked c =
 
 pub returns-in-Revoked-clause-steps : goal.returns-in-Revoked-clause-steps
 returns-in-Revoked-clause-steps c = if_ok c.revoke.result _ _ (λ moved revokes. λ job n sends is.
-    gathers_so job c.args.self.now c.revoke.new.self n c.in_ok-wanted.wanted c.in_ok-known.known _ moved sends sends c.args.items.now c.revoke.new.items is c.requires.gathering (subst (λ (s : Standing). (walk : Walk) → DoesRest s.view walk s.flow → AsksFor walk c.in_ok-wanted.wanted) c.self.view_is c.in_ok-wanted.ensures.asked) (c.in_ok-known.ensures.stands job n is) (sym c.in-Revoked.is ∙ c.poll.ensures.answers) (λ place state rest at there.
+    gathers_so job c.args.self.now c.revoke.new.self n c.args.wanted.now c.in_ok-known.known _ moved sends sends c.args.items.now c.revoke.new.items is c.requires.gathering c.requires.asked (c.in_ok-known.ensures.stands job n is) (sym c.in-Revoked.is ∙ c.poll.ensures.answers) (λ place state rest at there.
     subst (λ (p : ℕ). Steps job n (Some (returns_error n (ByLeaving p))) moved c.revoke.new.self sends sends c.args.items.now c.revoke.new.items)
     (sym (proc_there n c.self.inside.comm c.in-Revoked.left c.proc_at-who-in-Revoked.result (is.comm ∙ ap (λ (s : Standing). s.comm) (sym c.self.view_is)) c.proc_at-who-in-Revoked.ensures.there)) (revokes job n sends is))) c.revoke.ensures.revokes
 
 pub returns-clause-steps : goal.returns-clause-steps
 returns-clause-steps c = λ job n sends is.
-    gathers_so job c.args.self.now c.args.self.now n c.in_ok-wanted.wanted c.in_ok-known.known poll.NotYet moved.Quiet sends sends c.args.items.now c.args.items.now is c.requires.gathering (subst (λ (s : Standing). (walk : Walk) → DoesRest s.view walk s.flow → AsksFor walk c.in_ok-wanted.wanted) c.self.view_is c.in_ok-wanted.ensures.asked) (c.in_ok-known.ensures.stands job n is) (sym c.in-NotYet.is ∙ c.poll.ensures.answers) (λ place state rest at there. waits_so job c.args.self.now n sends c.args.items.now is c.requires.gathering)
+    gathers_so job c.args.self.now c.args.self.now n c.args.wanted.now c.in_ok-known.known poll.NotYet moved.Quiet sends sends c.args.items.now c.args.items.now is c.requires.gathering c.requires.asked (c.in_ok-known.ensures.stands job n is) (sym c.in-NotYet.is ∙ c.poll.ensures.answers) (λ place state rest at there. waits_so job c.args.self.now n sends c.args.items.now is c.requires.gathering)
