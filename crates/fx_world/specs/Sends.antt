@@ -1,5 +1,5 @@
 -- What a process sends, one message after another.
-use Rattle.std.specs.Prelude.{ℕ, Bool, if◌then◌else◌, List, [], ◌∷◌, Option, Some, None}
+use Rattle.std.specs.Prelude.{ℕ, Bool, if◌then◌else◌, List, [], ◌∷◌}
 use Rattle.fx_base.specs.declared.names.Proc.{Proc}
 use Rattle.fx_item.specs.declared.item.Item.{Item}
 use Rattle.fx_item.specs.declared.item.Item.TheVariants as item
@@ -18,9 +18,3 @@ links_behind p ended links = if ended then closed_to links p else links
 -- the item of a message that is sent
 abbrev pub sent_item : Proc → Proc × Message → Item
 sent_item p x = item.Send p x.0 x.1
-
--- the message of an item of a send or a delivery
-abbrev pub carried : Item → Option Message
-carried (item.Send p q message) = Some message
-carried (item.Deliver p q message) = Some message
-carried other = None

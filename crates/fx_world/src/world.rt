@@ -12,7 +12,7 @@ ghost use Rattle.fx_sched.specs.Moments.{IsAmong};
 ghost use Rattle.fx_script.specs.declared.job.Job.{Job};
 ghost use Rattle.fx_world.specs.Counting.{counted, no_counts};
 ghost use Rattle.fx_world.specs.Goes.{Goes, GoesWhole, IsForEver, at_all, at_moment, delivering, draining, in_round, in_rounds, in_run, in_tail, in_turn, killing, learning, noticing, receiving, resting, stepping};
-ghost use Rattle.fx_world.specs.Sends.{carried, links_behind, sent_all, sent_item};
+ghost use Rattle.fx_world.specs.Sends.{links_behind, sent_all, sent_item};
 ghost use Rattle.fx_world.specs.Standings.{IsOfSame, IsPost, IsWorldOf, post_of};
 ghost use Rattle.fx_world.specs.Texts.{shown_text};
 ghost use Rattle.fx_world.specs.declared.end.RunEnd.TheVariants as RunEnd;
@@ -327,12 +327,8 @@ impl World {
         let Some(message) = self.links.take(p, q) else {
             return Ok(());
         };
-        let item = Item::Deliver { p, q, message };
-        self.teller.tell(&item, shown, sink)?;
-        match carried(item) {
-            Some(message) => Ok(self.posts[usize::from(q.0)].receive(p, message)?),
-            None => Ok(()),
-        }
+        self.teller.tell_delivery(p, q, &message, shown, sink)?;
+        Ok(self.posts[usize::from(q.0)].receive(p, message)?)
     }
 
     // A process is killed, if it is up: what it kept goes, and what is under way to it.
@@ -514,12 +510,8 @@ impl World {
         ensures writes { Puts (K.state sink.old) (K.state sink.new) (shown_text shown (sent_item p (q, message) ∷ [])) result }
         ensures of_all { IsOfSame self.old self.new }
     {
-        let item = Item::Send { p, q, message };
-        self.teller.tell(&item, shown, sink)?;
-        match carried(item) {
-            Some(message) => Ok(self.links.send(p, q, message)?),
-            None => Ok(()),
-        }
+        self.teller.tell_send(p, q, &message, shown, sink)?;
+        Ok(self.links.send(p, q, message)?)
     }
 }
 
@@ -536,14 +528,4 @@ fn is_out_of_memory(end: &Result<(), RunEnd>) -> bool
     ensures { IsTrue result ↔ (end.now ≡ Err RunEnd.NoMemory) }
 {
     matches!(end, Err(RunEnd::NoMemory))
-}
-
-// The message that is sent or delivered.
-fn carried(item: Item) -> Option<Message>
-    ensures { result ≡ carried item }
-{
-    match item {
-        Item::Send { message, .. } | Item::Deliver { message, .. } => Some(message),
-        _ => None,
-    }
 }
