@@ -7,7 +7,7 @@ ghost use Rattle.fx_ballot.specs.Seats.{at_seat, seated, hears_seat, told_seat, 
 
 use crate::stage::Stage;
 use fx_ballot::{Heard, Poll};
-use fx_base::NoMemory;
+use fx_base::{NoMemory, Seq};
 use fx_link::{Slot, Slots};
 use std::alloc::Global;
 use std::marker::Model;
@@ -297,10 +297,10 @@ fn gathered(alloc: Global, heard: &[Heard]) -> Result<Slots, NoMemory>
     requires { IsSome (slots_of (at_seat heard.now) (length heard.now)) }
     ensures { IfOk result (λ slots. slots_of (at_seat heard.now) (length heard.now) ≡ Some slots) }
 {
-    let mut slots = Slots::new(alloc);
+    let mut slots = Seq::new(alloc);
     slots.reserve(heard.len())?;
     for known in heard {
         slots.push(slot_known(known))?;
     }
-    Ok(slots)
+    Slots::of(alloc, slots)
 }

@@ -169,7 +169,8 @@ fn nothing_known(alloc: Global, members: u8) -> Result<Vec<Known>, NoMemory>
     Ok(known)
 }
 
-fn combined(op: Op, one: i64, other: i64) -> i64
+/// What the operation makes of two numbers. A sum wraps at 64 bits.
+pub fn combined(op: Op, one: i64, other: i64) -> i64
     ensures { result ≡ combined op one other }
 {
     match op {

@@ -7,7 +7,7 @@ pub mod laws;
 mod part;
 mod poll;
 
-pub use gather::Gather;
+pub use gather::{Gather, combined};
 pub use part::Part;
 pub use poll::CollPoll;
 

@@ -249,7 +249,7 @@ knows_later me before calls e k lost texts old new is on know =
           ∙ current_of_later before calls e k (slice_index_or old.messages q []) (texts q) on (know.heard q);
     })
 
-always : {X : Type 0} (n q : ℕ) (d : X) → slice_index_or (replicate n d) q d ≡ d
+pub always : {X : Type 0} (n q : ℕ) (d : X) → slice_index_or (replicate n d) q d ≡ d
 always n q d = elim (cases_lt q n) [
   | inl below ↦ get_or-replicate n q d d below
   | inr beyond ↦ get_or_past (replicate n d) q d (rw (length-replicate n d) beyond)

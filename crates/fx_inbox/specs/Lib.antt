@@ -1,4 +1,5 @@
 pub mod Ballots
+pub mod Joins
 pub mod Keeping
 pub mod Measures
 pub mod Turns

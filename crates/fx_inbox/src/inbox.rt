@@ -1,8 +1,9 @@
-ghost use Rattle.std.specs.Prelude.{◌≡◌, ◌≢◌, ◌<◌, ◌≤◌, ◌&&◌, ◌||◌, ℕ, List, Bool, true, false, All, IfOk, OnOk, OnErr, length};
+ghost use Rattle.std.specs.Prelude.{◌≡◌, ◌≢◌, ◌<◌, ◌≤◌, ◌&&◌, ◌||◌, ℕ, List, Bool, true, false, All, IsTrue, IfOk, OnOk, OnErr, length};
 ghost use Rattle.std.specs.Option.{option_copied};
 ghost use Rattle.fx_ballot.specs.Names.{seat_of};
 ghost use Rattle.fx_ballot.specs.Turn.{Round, slot_of, speak};
 ghost use Rattle.fx_inbox.specs.Ballots.{TakesPart, about_of, ballot_of};
+ghost use Rattle.fx_inbox.specs.Joins.{HasNoJoin, IsCalm};
 ghost use Rattle.fx_inbox.specs.Keeping.{IsInboxOf, Knows, goes_on, part_from, senders};
 ghost use Rattle.fx_inbox.specs.declared.phase.Phase.TheVariants as Phase;
 ghost use Rattle.fx_inbox.specs.Turns.{IsTurn, Stays, phase_of};
@@ -16,11 +17,11 @@ use crate::ballot::{About, Ballot, has, seat_of};
 use crate::estimate::{Measure, first_estimate, has_estimate};
 use crate::part::first_part;
 use crate::phase::Phase;
-use crate::row::Row;
+use crate::row::{Row, is_vote_of_epoch};
 use crate::vote::first_vote;
 use fx_ballot::Poll;
-use fx_base::{CallNo, Elems, Epoch, NoMemory, Proc, ProcSet};
-use fx_link::{Message, Slot, Slots};
+use fx_base::{CallNo, Epoch, NoMemory, Proc, ProcSet, Seq};
+use fx_link::{Message, Slot, Slots, Values};
 use std::alloc::Global;
 use std::marker::Model;
 
@@ -31,9 +32,13 @@ pub struct Inbox {
     me: Proc,
     lost: ProcSet,
     rows: Vec<Row>,
+    // Whether a vote in the ballot of an epoch may be kept.
+    joined: bool,
 }
 
 impl Model for Inbox {
+    ghost use Rattle.std.specs.Prelude.{◌≡◌, false};
+    ghost use Rattle.fx_inbox.specs.Joins.{HasNoJoin, IsCalm};
     ghost use Rattle.fx_inbox.specs.Keeping.{IsOfFew, Kept, kept_code};
 
     ghost Value = { Kept };
@@ -42,7 +47,7 @@ impl Model for Inbox {
 
     ghost view = { λ b. record { me = b.me.0; lost = b.lost; messages = b.rows.items } };
 
-    ghost invariant = { λ b. IsOfFew (record { me = b.me.0; lost = b.lost; messages = b.rows.items }) };
+    ghost invariant = { λ b. IsOfFew (record { me = b.me.0; lost = b.lost; messages = b.rows.items }) × (b.joined ≡ false → HasNoJoin b.rows.items) };
 }
 
 impl Inbox {
@@ -61,6 +66,7 @@ impl Inbox {
             me,
             lost: ProcSet::new(),
             rows,
+            joined: false,
         })
     }
 
@@ -75,6 +81,7 @@ impl Inbox {
         if from == self.me {
             return Ok(());
         }
+        self.joined = self.joined || is_vote_of_epoch(&message);
         self.rows[usize::from(from.0)].push(message)
     }
 
@@ -86,6 +93,7 @@ impl Inbox {
         ensures of_all { senders self.new ≡ senders self.old }
         ensures same { self.new.me ≡ self.old.me }
     {
+        self.joined = self.joined || is_vote_of_epoch(&message);
         self.rows[usize::from(self.me.0)].push(message)
     }
 
@@ -116,6 +124,14 @@ impl Inbox {
         for row in self.rows.iter_mut() {
             row.forget(epoch, call);
         }
+        self.joined = self.joined && has_joins(&self.rows);
+    }
+
+    /// Whether it was told of no loss and keeps no vote in the ballot of an epoch: then nobody is lost or has left.
+    pub fn is_calm(&self) -> bool
+        ensures { IsTrue result → (n : Node) → IsInboxOf n self.now → IsCalm n }
+    {
+        !self.joined && self.lost.least().is_none()
     }
 
     /// What a process votes in the ballot of the epoch behind this one, if that was heard. One's own vote counts as it is;
@@ -132,7 +148,7 @@ impl Inbox {
     }
 
     /// The first part of this length that was heard of a process in the call of this epoch that it has come to.
-    pub fn part_of(&self, epoch: Epoch, call: CallNo, who: u8, due: usize) -> Option<&Elems>
+    pub fn part_of(&self, epoch: Epoch, call: CallNo, who: u8, due: usize) -> Option<&Values>
         ensures { (n : Node) → IsInboxOf n self.now → n.epoch ≡ epoch.0 → n.calls ≡ call.0 → option_copied result ≡ part_from n due who }
     {
         match self.rows.get(usize::from(who)) {
@@ -174,14 +190,16 @@ impl Inbox {
         ensures takes { IfOk result (λ said. (n : Node) → IsInboxOf n self.now → TakesPart ballot.now n
             → IsTurn (turn_in (ballot_of ballot.now) n (phase_of phase.old)) said phase.new) }
     {
-        let mut slots = Slots::new(*self.rows.allocator());
+        let alloc = *self.rows.allocator();
+        let mut slots = Seq::new(alloc);
+        slots.reserve(ballot.members.len())?;
         for member in ballot.members {
             match self.slot_of(ballot, *member) {
                 Some(slot) => slots.push(slot)?,
                 None => return Ok(Poll::NotYet),
             }
         }
-        *phase = Phase::Round(0, slots);
+        *phase = Phase::Round(0, Slots::of(alloc, slots)?);
         Ok(Poll::Moved)
     }
 
@@ -293,4 +311,16 @@ fn speak(round: &mut u8, held: &Slots) -> Result<Poll, NoMemory>
     let said = held.copy()?;
     *round += 1;
     Ok(Poll::SendEstimate(said))
+}
+
+// Whether a row has a vote in the ballot of an epoch.
+fn has_joins(rows: &[Row]) -> bool
+    ensures { result ≡ false → HasNoJoin rows.now }
+{
+    for row in rows {
+        if row.has_join() {
+            return true;
+        }
+    }
+    false
 }

@@ -3,8 +3,8 @@ ghost use Rattle.std.specs.Option.{option_copied};
 ghost use Rattle.fx_machine.specs.Messages.{wire_text};
 ghost use Rattle.fx_machine.specs.Reading.{first_read, only, part_in};
 
-use fx_base::{CallNo, Elems, Epoch};
-use fx_link::Message;
+use fx_base::{CallNo, Epoch};
+use fx_link::{Message, Values};
 
 /// The first part of this length among the messages of a process, in this call of this epoch.
 pub(crate) fn first_part(
@@ -12,7 +12,7 @@ pub(crate) fn first_part(
     epoch: Epoch,
     call: CallNo,
     due: usize,
-) -> Option<&Elems>
+) -> Option<&Values>
     ensures { option_copied result ≡ first_read (λ t. only (λ values. length values == due) (part_in epoch.0 call.0 t)) (map wire_text messages.now) }
 {
     for message in messages {
@@ -26,7 +26,7 @@ pub(crate) fn first_part(
 }
 
 // The values of the part that a message is, if it is one of this call.
-fn part_in(message: &Message, epoch: Epoch, call: CallNo) -> Option<&Elems>
+fn part_in(message: &Message, epoch: Epoch, call: CallNo) -> Option<&Values>
     ensures { option_copied result ≡ part_in epoch.0 call.0 (wire_text message.now) }
 {
     match message {

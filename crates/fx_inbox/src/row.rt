@@ -1,5 +1,6 @@
 ghost use Rattle.std.specs.Prelude.{◌≡◌, ◌++◌, ◌∷◌, [], not, OnOk, OnErr};
-ghost use Rattle.std.specs.List.{filter};
+ghost use Rattle.std.specs.List.{filter, list_any};
+ghost use Rattle.fx_inbox.specs.Joins.{tells_join};
 ghost use Rattle.fx_machine.specs.Messages.{wire_text};
 ghost use Rattle.fx_machine.specs.Reading.{is_past_at};
 
@@ -52,6 +53,18 @@ impl Row {
         Ok(self.messages.push(message)?)
     }
 
+    /// Whether one of them is a vote in the ballot of an epoch.
+    pub fn has_join(&self) -> bool
+        ensures { result ≡ list_any tells_join self.now }
+    {
+        for message in &self.messages {
+            if is_vote_of_epoch(message) {
+                return true;
+            }
+        }
+        false
+    }
+
     /// Keeps exactly the messages that aren't past for who has come to this call of this epoch.
     pub fn forget(&mut self, epoch: Epoch, call: CallNo)
         ensures { self.new ≡ filter (λ m. not (is_past_at epoch.0 call.0 (wire_text m))) self.old }
@@ -59,6 +72,13 @@ impl Row {
         self.messages
             .retain(|message| !is_past(message, epoch, call));
     }
+}
+
+/// Whether a message is a vote in the ballot of an epoch.
+pub(crate) fn is_vote_of_epoch(message: &Message) -> bool
+    ensures { result ≡ tells_join message.now }
+{
+    matches!(message, Message::Join { .. })
 }
 
 /// Whether a message is of a ballot or of a call that is over, for who has come to this call of this epoch.

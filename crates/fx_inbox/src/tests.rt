@@ -2,7 +2,7 @@ ghost use Rattle.std.specs.Prelude.{◌≡◌, IfOk};
 ghost use Rattle.fx_inbox.specs.Keeping.{senders};
 
 use super::*;
-use fx_base::{CallNo, Epoch, NoMemory, Proc};
+use fx_base::{CallNo, Epoch, NoMemory, Proc, Seq};
 use fx_link::{Message, Slot, Slots};
 use std::test::Fail;
 
@@ -10,13 +10,13 @@ fn join(e: u32, kind: Slot) -> Message {
     Message::Join { e: Epoch(e), kind }
 }
 
-/// The slots of three members, of which the first voted `final`.
-fn slots(rt: &HostRuntime, second: Slot, third: Slot) -> Result<Slots, NoMemory> {
-    let mut slots = Slots::new(rt.alloc());
-    slots.push(Slot::Final)?;
+/// The slots of three members.
+fn slots(rt: &HostRuntime, first: Slot, second: Slot, third: Slot) -> Result<Slots, NoMemory> {
+    let mut slots = Seq::new(rt.alloc());
+    slots.push(first)?;
     slots.push(second)?;
     slots.push(third)?;
-    Ok(slots)
+    Slots::of(rt.alloc(), slots)
 }
 
 /// What the second of three processes keeps that voted `error` in the ballot of epoch 3.
@@ -79,7 +79,7 @@ fn the_first_vote_and_a_loss_make_an_estimate(rt: HostRuntime) -> Result<(), Fai
     assert_eq!(rt; inbox.vote_of(Epoch(2), 0), Some(Slot::Final));
     assert!(rt; inbox.is_lost(2) && !inbox.is_lost(0));
     assert!(rt; takes(&inbox, &mut phase, Poll::Moved)?);
-    let wanted = slots(&rt, Slot::Error, Slot::Lost)?;
+    let wanted = slots(&rt, Slot::Final, Slot::Error, Slot::Lost)?;
     assert!(rt; matches!(&phase, Phase::Round(0, held) if *held == wanted));
     Ok(())
 }
@@ -88,19 +88,19 @@ fn the_first_vote_and_a_loss_make_an_estimate(rt: HostRuntime) -> Result<(), Fai
 fn the_second_adopts_speaks_and_decides(rt: HostRuntime) -> Result<(), Fail> {
     let mut inbox = voter(&rt)?;
     inbox.lose(Proc(2));
-    let mut phase = Phase::Round(0, slots(&rt, Slot::Error, Slot::Lost)?);
-    let other_vote = slots(&rt, Slot::Spare, Slot::Error)?;
+    let mut phase = Phase::Round(0, slots(&rt, Slot::Final, Slot::Error, Slot::Lost)?);
+    let other_vote = slots(&rt, Slot::Final, Slot::Spare, Slot::Error)?;
     hear(&mut inbox, estimate(3, 0, other_vote))?;
-    let other_round = slots(&rt, Slot::Error, Slot::Error)?;
+    let other_round = slots(&rt, Slot::Final, Slot::Error, Slot::Error)?;
     hear(&mut inbox, estimate(3, 1, other_round))?;
     assert!(rt; takes(&inbox, &mut phase, Poll::NotYet)?);
-    let fitting = slots(&rt, Slot::Error, Slot::Error)?;
+    let fitting = slots(&rt, Slot::Final, Slot::Error, Slot::Error)?;
     hear(&mut inbox, estimate(3, 0, fitting))?;
     assert!(rt; takes(&inbox, &mut phase, Poll::Moved)?);
-    let all = slots(&rt, Slot::Error, Slot::Error)?;
+    let all = slots(&rt, Slot::Final, Slot::Error, Slot::Error)?;
     assert!(rt; takes(&inbox, &mut phase, Poll::SendEstimate(all))?);
     assert!(rt; takes(&inbox, &mut phase, Poll::Moved)?);
-    let all = slots(&rt, Slot::Error, Slot::Error)?;
+    let all = slots(&rt, Slot::Final, Slot::Error, Slot::Error)?;
     assert!(rt; takes(&inbox, &mut phase, Poll::Decided(all))?);
     Ok(())
 }
@@ -119,19 +119,29 @@ fn in_a_call_who_joined_has_left(rt: HostRuntime) -> Result<(), Fail> {
     assert!(rt; takes_in_call(&inbox, &mut phase, Poll::NotYet)?);
     hear(&mut inbox, join(3, Slot::Error))?;
     assert!(rt; takes_in_call(&inbox, &mut phase, Poll::Moved)?);
-    let mut wanted = Slots::new(rt.alloc());
-    wanted.push(Slot::Left)?;
-    wanted.push(Slot::Flag(5))?;
-    wanted.push(Slot::Lost)?;
+    let wanted = slots(&rt, Slot::Left, Slot::Flag(5), Slot::Lost)?;
     assert!(rt; matches!(&phase, Phase::Round(0, held) if *held == wanted));
-    let mut slots = Slots::new(rt.alloc());
-    slots.push(Slot::Flag(6))?;
-    slots.push(Slot::Flag(5))?;
-    slots.push(Slot::Left)?;
+    let slots = slots(&rt, Slot::Flag(6), Slot::Flag(5), Slot::Left)?;
     let r = 0;
     hear(&mut inbox, Message::Est { e, k, r, slots })?;
     assert!(rt; takes_in_call(&inbox, &mut phase, Poll::Moved)?);
     assert!(rt; matches!(&phase, Phase::Round(1, held) if held.nth(0) == Some(&Slot::Flag(6))));
+    Ok(())
+}
+
+#[test]
+fn a_loss_or_a_vote_of_an_epoch_ends_the_calm(rt: HostRuntime) -> Result<(), Fail> {
+    let mut inbox = Inbox::new(rt.alloc(), 2, Proc(0))?;
+    inbox.receive(Proc(1), flag(3, 6))?;
+    assert!(rt; inbox.is_calm());
+    inbox.receive(Proc(1), join(3, Slot::Error))?;
+    assert!(rt; !inbox.is_calm());
+    inbox.forget(Epoch(2), CallNo(4));
+    assert!(rt; !inbox.is_calm());
+    inbox.forget(Epoch(3), CallNo(0));
+    assert!(rt; inbox.is_calm());
+    inbox.lose(Proc(1));
+    assert!(rt; !inbox.is_calm());
     Ok(())
 }
 

@@ -1,1 +1,2 @@
 pub mod LinkTable
+pub mod Sharing

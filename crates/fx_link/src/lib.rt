@@ -7,12 +7,14 @@ mod links;
 mod message;
 mod queue;
 mod row;
+mod shared;
 mod slot;
 
 pub use held::Held;
 pub use links::Links;
 pub use message::{Known, Message};
-pub use slot::{Slot, Slots};
+pub use shared::Shared;
+pub use slot::{Slot, Slots, Values};
 
 #[cfg(test)]
 mod tests;

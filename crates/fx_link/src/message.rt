@@ -1,8 +1,8 @@
 ghost use Rattle.std.specs.Prelude.{◌≡◌, IfOk};
 
 use crate::held::Held;
-use crate::slot::{Slot, Slots};
-use fx_base::{CallNo, Copied, Elems, Epoch, NoMemory, Seats, Stamp, StampShares, Stamps};
+use crate::slot::{Slot, Slots, Values};
+use fx_base::{CallNo, Copied, Epoch, NoMemory, Seats, Stamp, StampShares, Stamps};
 
 /// What a process holds under a data group.
 #[derive(Debug, Drop)]
@@ -49,7 +49,7 @@ pub enum Message {
     Part {
         e: Epoch,
         k: CallNo,
-        elems: Elems,
+        elems: Values,
     },
     /// A vote in a call's ballot.
     Vote {

@@ -1,4 +1,5 @@
-use fx_base::{Copied, NoMemory, Proc, Seq};
+use crate::shared::Shared;
+use fx_base::{Copied, NoMemory, Proc};
 use std::alloc::Global;
 
 /// What one member says in a ballot: its vote, or what the others put in its place.
@@ -47,5 +48,8 @@ impl Copied for Slot {
     }
 }
 
-/// One slot for each member.
-pub type Slots = Seq<Slot>;
+/// One slot for each member, shared by all that say them.
+pub type Slots = Shared<Slot>;
+
+/// The values of a part, shared by all that it is sent to.
+pub type Values = Shared<i64>;

@@ -1,5 +1,5 @@
 use super::*;
-use fx_base::{CallNo, Epoch, Proc, Seats, Stamp, Stamps};
+use fx_base::{CallNo, Copied, Epoch, Proc, Seats, Seq, Stamp, Stamps};
 use std::alloc::Global;
 use std::test::Fail;
 
@@ -81,5 +81,21 @@ fn a_message_is_copied(rt: HostRuntime) -> Result<(), Fail> {
         known: Some(Held::new(rt.alloc(), known)?),
     };
     assert_eq!(rt; tell_of(&tell.copy()?), Some((Stamp(8), Some(Stamp(7)))));
+    Ok(())
+}
+
+#[test]
+fn copies_share_a_list(rt: HostRuntime) -> Result<(), Fail> {
+    let mut items = Seq::new(rt.alloc());
+    items.push(4)?;
+    items.push(-9)?;
+    let values = Values::of(rt.alloc(), items)?;
+    let copy = values.copy()?;
+    drop(values);
+    assert_eq!(rt; copy.nth(1).copied(), Some(-9));
+    assert!(rt; Values::of(rt.alloc(), copy.to_items(rt.alloc())?)? == copy);
+    let empty = Values::of(rt.alloc(), Seq::new(rt.alloc()))?;
+    assert_eq!(rt; empty.copied()?.len(), 0);
+    assert_eq!(rt; Values::empty().to_items(rt.alloc())?.len(), 0);
     Ok(())
 }

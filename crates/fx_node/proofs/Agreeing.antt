@@ -4,7 +4,7 @@ use Rattle.std.proofs.lemmas.List.Elements.{All-map}
 use Rattle.std.proofs.lemmas.Bool.{and_from, eq-eqb, le-leb, or_right, true≢false}
 use Rattle.std.proofs.Math.Facts.{of_z-to_z}
 use Rattle.std.proofs.lemmas.Nat.{and_comm}
-use Rattle.std.proofs.Common.{append_assoc, bit_and, drop, length, All, Fits, of_z, to_z, w64, subst, arith, ◌≡◌, ◌++◌, ◌∷◌, ◌==◌, ◌+◌, ◌<◌, ◌≤◌, [], ℕ, ℤ, suc, Bool, true, false, List, Option, Some, None, refl, ap, sym, ◌∙◌}
+use Rattle.std.proofs.Common.{zero, append_assoc, bit_and, length, All, Fits, of_z, to_z, w64, subst, take, arith, ◌≡◌, ◌++◌, ◌∷◌, ◌==◌, ◌+◌, ◌<◌, ◌≤◌, [], ℕ, ℤ, suc, Bool, true, false, List, Option, Some, None, refl, ap, sym, ◌∙◌}
 use Rattle.std.specs.Prelude.{if◌then◌else◌, is_some, nat_le, nat_lt, option_map, slice_get}
 use Rattle.std.specs.List.{list_all}
 use Rattle.fx_ballot.specs.declared.poll.Poll.{Poll}
@@ -55,7 +55,6 @@ use Rattle.fx_node.specs.Standing.{HasTurnedInCall, InCall, IsBalloting, IsInCal
 use Rattle.fx_node.specs.Stepping.{Steps, Takes, broadcast, call_estimate}
 use Rattle.fx_node.proofs.Calling.{in_call_at, walks_at, walks_in}
 use Rattle.fx_node.proofs.Joining.{one_more_up, posted_all}
-use Rattle.fx_node.proofs.Testing.{seat_there}
 use Rattle.fx_script.specs.declared.job.Job.{Job}
 use Rattle.fx_walk.specs.State.{State}
 use Rattle.fx_walk.specs.Walk.{Asks, Ends, Passes, Prints, Reply, TextPlace, Walk}
@@ -390,13 +389,12 @@ no_slots_left seats (x ∷ slots) all none so = absurd (omega (arith, none))
 
 -- ---- the processes of places
 
-pub one_more_process : (found : List ℕ) (seats : List Seat) (k : ℕ) (p : Proc) (all : List ℕ) → option_map (λ (s : Seat). s.1) (slice_get seats k) ≡ Some p → found ++ procs_of (drop k seats) ≡ all
-    → (found ++ p.0 ∷ []) ++ procs_of (drop (k + 1) seats) ≡ all
-one_more_process found seats k p all there so =
-    let x = seat_there seats k p there in
-    append_assoc found (p.0 ∷ []) (procs_of (drop (k + 1) seats))
-    ∙ ap (λ (q : Proc). found ++ q.0 ∷ procs_of (drop (k + 1) seats)) (sym x.1)
-    ∙ ap (λ (l : List Seat). found ++ procs_of l) (sym x.2) ∙ so
+pub one_more_process : (seats : List Seat) (k : ℕ) (p : Proc) → option_map (λ (s : Seat). s.1) (slice_get seats k) ≡ Some p → procs_of (take k seats) ++ p.0 ∷ [] ≡ procs_of (take (k + 1) seats)
+one_more_process [] k p there = absurd cc
+one_more_process (s ∷ seats) zero p there = let same : s.1 ≡ p = cc in ap (λ (q : Proc). q.0 ∷ []) (sym same)
+one_more_process (s ∷ seats) (suc k) p there =
+    let next : suc k + 1 ≡ suc (k + 1) = omega arith in
+    rw next (ap (λ (l : List ℕ). s.1.0 ∷ l) (one_more_process seats k p there))
 
 pub all_among : (bound : ℕ) (found : List ℕ) (seats : List Seat) → All (λ (s : Seat). s.1.0 < bound) seats → found ≡ procs_of seats → All (λ q. q < bound) found
 all_among bound found seats below is = subst (λ (l : List ℕ). All (λ q. q < bound) l) (sym is) (All-map (λ q. q < bound) (λ (s : Seat). s.1.0) seats below)

@@ -520,16 +520,15 @@ gathers_by job c after n w said sent sent' told told' h is asked goes =
     let only : gathers_parts w ≡ true = subst (AsksSuch gathers_parts) at here.1.asks in
     subst (λ (a : Option Act). Steps job n a said after sent sent' told told') (front_so job n w rest only) (goes place state rest at only)))
 
--- a barrier whose parts are there passes
-pub passes_whole : (job : Job) (c after : Standing) (n : Node) (w : Wanted) (said : Moved) (sent sent' : List (Proc × Message)) (told told' : List Item)
-    → IsNodeOf job c n → c.stage ≡ stage.Gathering → w ≡ wanted.Barrier → ((walk : Walk) → DoesRest c.view walk c.flow → AsksFor walk w) → (gathers_parts w ≡ true → are_gathered n w ≡ true)
-    → ((place : TextPlace) (state : State) (rest : Reply → Walk) → n.walk ≡ Asks place w state rest → Steps job n (Some (passes n rest)) said after sent sent' told told')
+-- with all parts there it does what is done then
+pub whole_goes : (job : Job) (c after : Standing) (n : Node) (w : Wanted) (said : Moved) (sent sent' : List (Proc × Message)) (told told' : List Item)
+    → IsNodeOf job c n → c.stage ≡ stage.Gathering → ((walk : Walk) → DoesRest c.view walk c.flow → AsksFor walk w) → (gathers_parts w ≡ true → are_gathered n w ≡ true)
+    → ((place : TextPlace) (state : State) (rest : Reply → Walk) → n.walk ≡ Asks place w state rest → Steps job n (gathered n w rest) said after sent sent' told told')
     → Steps job n (next (job_setup job) n) said after sent sent' told told'
-passes_whole job c after n w said sent sent' told told' h is barrier asked whole goes =
+whole_goes job c after n w said sent sent' told told' h is asked whole goes =
     gathers_by job c after n w said sent sent' told told' h is asked (λ place state rest at only.
-    let all : are_gathered n w ≡ true = whole only in
-    let acts : in_gathering n w rest ≡ Some (passes n rest) =
-    ap (λ (b : Bool). if b then gathered n w rest else option_map (returns_error n) (gathering_error n w)) all ∙ ap (λ (v : Wanted). gathered n v rest) barrier in
+    let acts : in_gathering n w rest ≡ gathered n w rest =
+    ap (λ (b : Bool). if b then gathered n w rest else option_map (returns_error n) (gathering_error n w)) (whole only) in
     subst (λ (a : Option Act). Steps job n a said after sent sent' told told') (sym acts) (goes place state rest at))
 
 -- it waits on

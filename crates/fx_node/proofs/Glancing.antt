@@ -1,14 +1,15 @@
 -- What is seen of the parts of a call at a glance holds of it.
-use Rattle.std.proofs.Common.{arith, ◌≡◌, ◌==◌, ◌<◌, ◌≤◌, ◌+◌, ℕ, ℤ, List, Bool, true, false, inl, inr, Option, Some, None, refl, ap, sym, subst, ◌∙◌}
+use Rattle.std.proofs.Common.{Bor, arith, ◌≡◌, ◌<◌, ◌+◌, ℕ, ℤ, List, Bool, true, false, inl, inr, Option, Some, None, refl, ap, sym, subst, ◌∙◌}
 use Rattle.std.specs.Prelude.{if◌then◌else◌, ◌||◌, ◌&&◌, is_none, is_some, option_map}
-use Rattle.std.specs.Option.{option_or}
+use Rattle.std.specs.Option.{option_copied, option_or}
 use Rattle.std.proofs.lemmas.Bool.{cases_eq, eq-eqb, ne_eqb}
 use Rattle.fx_coll.proofs.Firsts.{first_none}
-use Rattle.fx_machine.specs.Gathering.{are_gathered, due_from, gathering_error, own_part, part_of}
+use Rattle.fx_machine.specs.Gathering.{due_from, gathering_error, own_part, part_of}
 use Rattle.fx_machine.specs.Nodes.{Node, my_place, proc_at, size}
 use Rattle.fx_machine.specs.Numbers.{first_below}
 use Rattle.fx_machine.specs.Reading.{has_left}
-use Rattle.fx_machine.specs.Waits.{ByLeaving, ByLoss, Error}
+use Rattle.fx_machine.specs.Waits.{ByLeaving, ByLoss}
+use Rattle.fx_inbox.specs.Joins.{IsCalm}
 use Rattle.fx_inbox.specs.Keeping.{part_from}
 use Rattle.fx_node.specs.Glancing.{IsSeen, IsSeenAt, IsSeenBelow, IsToCome, NoneIsMissed, both, is_missed, is_there}
 use Rattle.fx_node.specs.declared.glance.Glance.{Glance}
@@ -108,3 +109,20 @@ without n w x who at absent = of (n.lost who || has_left n who) refl
           and_false (is_none (part_of n w x)) (n.lost (proc_at n x)) (subst (λ (q : ℕ). n.lost q ≡ false) at neither.0),
           and_false (is_none (part_of n w x)) (has_left n (proc_at n x)) (subst (λ (q : ℕ). has_left n q ≡ false) at neither.1),
         )
+
+-- ---- where nobody is lost or has left
+
+-- a part that is missing is to come
+pub waits_in_calm : (n : Node) (w : Wanted) (x : ℕ) → x < size n → is_there n w x ≡ false → IsCalm n → IsSeen glance.Waiting n w
+waits_in_calm n w x below absent calm = (
+  each_fails (size n) (is_there n w) x below absent,
+  no_error n w (record {
+    lost = λ y inside. and_false (is_none (part_of n w y)) (n.lost (proc_at n y)) (calm (proc_at n y)).0;
+    left = λ y inside. and_false (is_none (part_of n w y)) (has_left n (proc_at n y)) (calm (proc_at n y)).1;
+  }),
+)
+
+-- what was read is there as it was
+pub some_copied : (o : Option (Bor (List ℤ))) → is_some o ≡ is_some (option_copied o)
+some_copied None = refl
+some_copied (Some v) = refl

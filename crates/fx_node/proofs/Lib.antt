@@ -14,4 +14,5 @@ pub mod Taking
 pub mod Telling
 pub mod Testing
 pub mod Turning
+pub mod Totals
 pub mod Turned

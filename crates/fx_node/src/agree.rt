@@ -1,5 +1,5 @@
 //! Agreements: the places vote with flags, and the call comes to what the ballot of their votes decides.
-ghost use Rattle.std.specs.Prelude.{◌≡◌, ◌<◌, ◌≤◌, ◌++◌, ℕ, ℤ, true, List, All, Some, IfOk, OnOk, length};
+ghost use Rattle.std.specs.Prelude.{◌≡◌, ◌<◌, ◌≤◌, ◌++◌, ℕ, ℤ, true, List, All, Some, IfOk, OnOk, length, take};
 ghost use Rattle.std.specs.Option.{option_map};
 ghost use Rattle.fx_base.specs.declared.names.Proc.{Proc};
 ghost use Rattle.fx_comm.specs.Seats.{has_place};
@@ -28,13 +28,12 @@ ghost use Rattle.fx_walk.specs.declared.wanted.Wanted.TheVariants as wanted;
 
 use crate::node::{Moved, Node, Outbox};
 use crate::stage::Stage;
-use fx_base::{Bytes, CallNo, NoMemory, Place, Proc, Seats};
+use fx_base::{CallNo, NoMemory, Place, Proc, Seats};
 use fx_comm::Comm;
 use fx_flow::{At, Wanted};
 use fx_inbox::{About, Ballot, Phase, Poll, Votes};
 use fx_item::{Item, Items};
 use fx_link::{Message, Slot, Slots};
-use std::alloc::Global;
 
 /// Why a call doesn't do what was asked.
 #[derive(Clone, Copy, Debug)]
@@ -102,7 +101,9 @@ impl Node {
         ensures to_processes { OnOk result (All (λ x. x.0.0 < processes self.old) sends.old → All (λ x. x.0.0 < processes self.old) sends.new) }
         ensures of_all { processes self.new ≡ processes self.old }
     {
-        for seat in self.comm.seats().as_slice() {
+        let seats = self.comm.seats().as_slice();
+        sends.reserve(seats.len())?;
+        for seat in seats {
             if seat.1 != self.me {
                 sends.push((seat.1, message.copy()?))?;
             }
@@ -136,13 +137,14 @@ impl Node {
         ensures turned { IfOk result (λ said. HasTurnedInCall self.old self.new said) }
         ensures of_all { processes self.new ≡ processes self.old }
     {
-        let members = processes_of(self.alloc, &self.comm)?;
+        let members = processes_of(&self.comm);
+        let places = usize::from(self.comm.size());
         let Stage::Balloting(phase) = &mut self.stage else {
             return Ok(Poll::NotYet);
         };
         let ballot = Ballot {
             about: About::Call(self.epoch, CallNo(self.calls), Votes::Flags),
-            members: members.as_slice(),
+            members: &members[..places],
             present: self.present.as_slice(),
         };
         self.inbox.turn(&ballot, phase)
@@ -204,16 +206,15 @@ impl Node {
     }
 }
 
-// The processes of all places, in their order.
-fn processes_of(alloc: Global, comm: &Comm) -> Result<Bytes, NoMemory>
-    ensures all { IfOk result (λ processes. processes ≡ procs_of comm.now) }
-    ensures few { IfOk result (λ processes. length processes ≤ 32) }
+// The processes of all places, in their order. What stands behind them has no meaning.
+fn processes_of(comm: &Comm) -> [u8; 32]
+    ensures { take (length comm.now) result ≡ procs_of comm.now }
 {
-    let mut processes = Bytes::new(alloc);
+    let mut processes = [0; 32];
     for place in 0..comm.size() {
-        processes.push(comm.proc_at(Place(place)).0)?;
+        processes[usize::from(place)] = comm.proc_at(Place(place)).0;
     }
-    Ok(processes)
+    processes
 }
 
 // The error of the first slot that has one, in the order of places.

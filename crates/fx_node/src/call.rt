@@ -1,17 +1,18 @@
 //! Calls in which each place gives a part to each other.
-ghost use Rattle.std.specs.Prelude.{get_or, pos, ◌≡◌, ◌≢◌, ◌<◌, ◌++◌, ℕ, true, List, All, Some, IfOk, OnOk, if◌then◌else◌, length, option_map};
+ghost use Rattle.std.specs.Prelude.{get_or, pos, ◌≡◌, ◌≢◌, ◌<◌, ◌++◌, ℕ, ℤ, true, List, All, Some, IfOk, OnOk, if◌then◌else◌, length, option_map};
 ghost use Rattle.fx_ballot.specs.Names.{has};
 ghost use Rattle.fx_coll.specs.Answer.{IsWhole};
 ghost use Rattle.fx_coll.specs.Keeping.{has_left, is_lost, known_at};
 ghost use Rattle.fx_coll.specs.Machine.{StandsFor, values_in};
 ghost use Rattle.fx_comm.specs.Seats.{place_in};
+ghost use Rattle.fx_base.specs.declared.names.Op.{Op as Operation};
 ghost use Rattle.fx_base.specs.declared.names.Proc.{Proc};
 ghost use Rattle.fx_fleet.specs.Runs.{job_setup};
 ghost use Rattle.fx_flow.specs.Flowing.{AsksFor, DoesRest, TellsNeed, WantsElements, WantsNumber, next_of};
 ghost use Rattle.fx_inbox.specs.Keeping.{part_from};
 ghost use Rattle.fx_link.specs.declared.message.Message.{Message};
 ghost use Rattle.fx_link.specs.declared.message.Message.TheVariants as message;
-ghost use Rattle.fx_machine.specs.Gathering.{are_gathered, due_from, gathered, passes, returns_elements, returns_number, source_of, target_of};
+ghost use Rattle.fx_machine.specs.Gathering.{are_gathered, due_from, gathered, numbers_of, passes, returns_elements, returns_number, source_of, target_of, total};
 ghost use Rattle.fx_machine.specs.Numbers.{call_no, epoch_no};
 ghost use Rattle.fx_machine.specs.Nodes as defined;
 ghost use Rattle.fx_machine.specs.Reading as reading;
@@ -29,15 +30,16 @@ ghost use Rattle.fx_walk.specs.State.{State};
 ghost use Rattle.fx_walk.specs.declared.action.At.TheVariants as at;
 ghost use Rattle.fx_walk.specs.declared.wanted.Wanted.{Wanted as Asked};
 ghost use Rattle.fx_walk.specs.declared.wanted.Wanted.TheVariants as wanted;
+ghost use Rattle.fx_walk.specs.declared.wanted.Wanted.TheVariants.{Reduce};
 
 use crate::glance::Glance;
 use crate::node::{Moved, Node, Outbox};
 use crate::stage::Stage;
 use fx_base::{CallNo, Elems, NoMemory, Op, Place, Proc};
-use fx_coll::{CollPoll, Gather, Part};
+use fx_coll::{CollPoll, Gather, Part, combined};
 use fx_flow::{At, Wanted};
 use fx_item::{Item, Items};
-use fx_link::Message;
+use fx_link::{Message, Values};
 use std::alloc::Global;
 
 impl Node {
@@ -76,7 +78,7 @@ impl Node {
             e: self.epoch,
             k: CallNo(next),
         })?;
-        self.enter(next, &Elems::new(self.alloc), None, sends)?;
+        self.enter(next, &Values::empty(), None, sends)?;
         Ok(Moved::Acted)
     }
 
@@ -107,7 +109,7 @@ impl Node {
         })?;
         let mut values = Elems::new(self.alloc);
         values.push(number)?;
-        self.enter(next, &values, None, sends)?;
+        self.enter(next, &Values::of(self.alloc, values)?, None, sends)?;
         Ok(Moved::Acted)
     }
 
@@ -140,7 +142,8 @@ impl Node {
             d: by,
             list: elements.copy()?,
         })?;
-        self.enter(next, &elements, Some(target), sends)?;
+        let values = Values::of(self.alloc, elements)?;
+        self.enter(next, &values, Some(target), sends)?;
         Ok(Moved::Acted)
     }
 
@@ -148,7 +151,7 @@ impl Node {
     fn enter(
         &mut self,
         next: u32,
-        values: &Elems,
+        values: &Values,
         only: Option<u8>,
         sends: &mut Outbox,
     ) -> Result<(), NoMemory>
@@ -169,16 +172,18 @@ impl Node {
     fn send_to_places(
         &self,
         call: CallNo,
-        values: &Elems,
+        values: &Values,
         only: Option<u8>,
         sends: &mut Outbox,
     ) -> Result<(), NoMemory>
         ensures sends { OnOk result (sends.new ≡ sends.old ++ to_seats self.now.me (λ x. message.Part (epoch_no self.now.epoch) call (share_of only values.now x)) 0 self.now.comm) }
         ensures to_processes { OnOk result (All (λ x. x.0.0 < processes self.now) sends.old → All (λ x. x.0.0 < processes self.now) sends.new) }
     {
-        for (place, seat) in self.comm.seats().as_slice().iter().enumerate() {
+        let seats = self.comm.seats().as_slice();
+        sends.reserve(seats.len())?;
+        for (place, seat) in seats.iter().enumerate() {
             if seat.1 != self.me {
-                let elems = share_of(self.alloc, only, values, place)?;
+                let elems = share_of(only, values, place)?;
                 let part = Message::Part {
                     e: self.epoch,
                     k: call,
@@ -234,7 +239,7 @@ impl Node {
         }
     }
 
-    // All parts are there. A barrier makes nothing of them.
+    // All parts are there. A barrier and a reduction take none of them.
     fn go_on_whole(
         &mut self,
         place: Place,
@@ -254,7 +259,41 @@ impl Node {
     {
         match wanted {
             Wanted::Barrier => self.pass(items),
+            Wanted::Reduce(op, _) => {
+                let total = self.total(place, *op, wanted);
+                self.give_number(total, items)
+            }
             _ => self.settle(place, wanted, items),
+        }
+    }
+
+    // What the operation of a reduction makes of the numbers of all places, in rising place.
+    fn total(&self, own: Place, op: Op, wanted: &Wanted) -> i64
+        requires there { place_in self.now.comm self.now.me ≡ Some own.0 }
+        requires inside { own.0 < length self.now.comm }
+        ensures { (job : Job) (n : defined.Node) (number : ℤ) → IsNodeOf job self.now n → wanted.now ≡ Reduce op number → result ≡ total op n wanted.now }
+    {
+        let mut total = self.number_of(own, Place(0), wanted);
+        for one in 1..self.comm.size() {
+            total = combined(op, total, self.number_of(own, Place(one), wanted));
+        }
+        total
+    }
+
+    // The number of a place in a reduction, 0 where none came.
+    fn number_of(&self, own: Place, one: Place, wanted: &Wanted) -> i64
+        requires there { place_in self.now.comm self.now.me ≡ Some own.0 }
+        requires inside { own.0 < length self.now.comm }
+        requires below { one.0 < length self.now.comm }
+        ensures { (job : Job) (n : defined.Node) (op : Operation) (number : ℤ) → IsNodeOf job self.now n → wanted.now ≡ Reduce op number → result ≡ get_or (numbers_of n wanted.now one.0) 0 (pos 0) }
+    {
+        if one.0 == own.0 {
+            return own_number(wanted);
+        }
+        let who = self.comm.proc_at(one).0;
+        match self.inbox.part_of(self.epoch, CallNo(self.calls), who, 1) {
+            Some(values) => first_number(values),
+            None => 0,
         }
     }
 
@@ -467,7 +506,7 @@ impl Node {
             → option_map values_in part ≡ part_from n due who) }
     {
         match self.inbox.part_of(self.epoch, CallNo(self.calls), who, due) {
-            Some(values) => Ok(Some(as_part(wanted, values)?)),
+            Some(values) => Ok(Some(as_part(self.alloc, wanted, values)?)),
             None => Ok(None),
         }
     }
@@ -486,12 +525,7 @@ impl Node {
 }
 
 // The values that go to a place: to each the same, or to one only, and none to the others.
-fn share_of(
-    alloc: Global,
-    only: Option<u8>,
-    values: &Elems,
-    place: usize,
-) -> Result<Elems, NoMemory>
+fn share_of(only: Option<u8>, values: &Values, place: usize) -> Result<Values, NoMemory>
     ensures { IfOk result (λ share. share ≡ share_of only values.now place) }
 {
     match only {
@@ -500,7 +534,7 @@ fn share_of(
             if place == usize::from(target) {
                 values.copy()
             } else {
-                Ok(Elems::new(alloc))
+                Ok(Values::empty())
             }
         }
     }
@@ -535,6 +569,16 @@ fn own_part(wanted: &Wanted) -> Result<Part, NoMemory>
     }
 }
 
+// One's own number in a reduction.
+fn own_number(wanted: &Wanted) -> i64
+    ensures { (op : Operation) (number : ℤ) → wanted.now ≡ Reduce op number → result ≡ number }
+{
+    match wanted {
+        Wanted::Reduce(_, number) => *number,
+        _ => 0,
+    }
+}
+
 // How many numbers are due from a place to one's own, among so many.
 pub(crate) fn due(wanted: &Wanted, places: u8, own: Place, one: Place) -> usize
     requires { own.0 < places }
@@ -554,13 +598,13 @@ pub(crate) fn due(wanted: &Wanted, places: u8, own: Place, one: Place) -> usize
 }
 
 // The part of as many values as are due.
-fn as_part(wanted: &Wanted, values: &Elems) -> Result<Part, NoMemory>
+fn as_part(alloc: Global, wanted: &Wanted, values: &Values) -> Result<Part, NoMemory>
     ensures kind { IfOk result (λ part. HasKind wanted.now (Some part)) }
     ensures same { IfOk result (λ part. (places own one : ℕ) → length values.now ≡ due_from wanted.now places own one → values_in part ≡ values.now) }
 {
     match wanted {
         Wanted::Reduce(..) => Ok(Part::Number(first_number(values))),
-        Wanted::Shift(..) => Ok(Part::Elems(values.copy()?)),
+        Wanted::Shift(..) => Ok(Part::Elems(values.to_items(alloc)?)),
         _ => Ok(Part::Empty),
     }
 }
@@ -579,7 +623,7 @@ fn values_in(alloc: Global, part: &Part) -> Result<Elems, NoMemory>
 }
 
 // The first of these numbers, 0 where there is none.
-fn first_number(values: &Elems) -> i64
+fn first_number(values: &Values) -> i64
     ensures { result ≡ get_or values.now 0 (pos 0) }
 {
     match values.nth(0) {

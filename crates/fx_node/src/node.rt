@@ -267,7 +267,9 @@ impl Node {
         ensures to_processes { OnOk result (All (λ x. x.0.0 < processes self.old) sends.old → All (λ x. x.0.0 < processes self.old) sends.new) }
         ensures of_all { processes self.new ≡ processes self.old }
     {
-        for member in self.present.as_slice() {
+        let members = self.present.as_slice();
+        sends.reserve(members.len())?;
+        for member in members {
             if *member != self.me.0 {
                 sends.push((Proc(*member), message.copy()?))?;
             }

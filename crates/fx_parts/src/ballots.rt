@@ -1,17 +1,18 @@
 ghost use Rattle.std.specs.Prelude.{◌≡◌, length, IfOk};
 
 use fx_agree::{Ballot, Poll};
+use fx_base::Seq;
 use fx_link::{Slot, Slots};
 use std::test::Fail;
 
 fn three(rt: &HostRuntime, first: Slot, second: Slot, third: Slot) -> Result<Slots, Fail>
     ensures { IfOk result (λ slots. length slots ≡ 3) }
 {
-    let mut slots = Slots::new(rt.alloc());
+    let mut slots = Seq::new(rt.alloc());
     slots.push(first)?;
     slots.push(second)?;
     slots.push(third)?;
-    Ok(slots)
+    Ok(Slots::of(rt.alloc(), slots)?)
 }
 
 #[test]

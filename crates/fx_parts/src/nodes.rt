@@ -2,10 +2,10 @@ ghost use Rattle.std.specs.Prelude.{◌≡◌, ◌≤◌};
 ghost use Rattle.fx_node.specs.Standing.{processes};
 
 use crate::jobs::{TWO_RANKS, job_of};
-use fx_base::{CallNo, Elems, Epoch, Ident, Proc, Seats, Seq, Stamp, StampShares, Stamps};
+use fx_base::{CallNo, Epoch, Ident, Proc, Seats, Seq, Stamp, StampShares, Stamps};
 use fx_flow::Flow;
 use fx_item::{Item, Items};
-use fx_link::{Held, Known, Message, Slot, Slots};
+use fx_link::{Held, Known, Message, Slot, Slots, Values};
 use fx_node::{Moved, Node, Outbox};
 use std::alloc::Global;
 use std::test::Fail;
@@ -50,7 +50,7 @@ fn add_of_call(alloc: Global, all: &mut Seq<Message>, e: Epoch, k: CallNo) -> Re
 
 fn message_of_call(alloc: Global, e: Epoch, k: CallNo, kind: u8) -> Result<Message, Fail> {
     match kind {
-        0 => Ok(part(alloc, e, k)),
+        0 => Ok(part(e, k)),
         1 => Ok(vote(e, k)),
         2 => estimate(alloc, e, k),
         3 => Ok(Message::Tell { e, k, known: None }),
@@ -61,8 +61,8 @@ fn message_of_call(alloc: Global, e: Epoch, k: CallNo, kind: u8) -> Result<Messa
     }
 }
 
-fn part(alloc: Global, e: Epoch, k: CallNo) -> Message {
-    let elems = Elems::new(alloc);
+fn part(e: Epoch, k: CallNo) -> Message {
+    let elems = Values::empty();
     Message::Part { e, k, elems }
 }
 
@@ -97,11 +97,11 @@ fn give(alloc: Global, e: Epoch, k: CallNo) -> Message {
 }
 
 fn slots_of(alloc: Global, count: u8) -> Result<Slots, Fail> {
-    let mut slots = Slots::new(alloc);
+    let mut slots = Seq::new(alloc);
     for _ in 0..count {
         slots.push(Slot::Lost)?;
     }
-    Ok(slots)
+    Ok(Slots::of(alloc, slots)?)
 }
 
 fn known_of(alloc: Global) -> Result<Known, Fail> {

@@ -1,8 +1,10 @@
 -- Texts that are written piece by piece.
-use Rattle.std.proofs.Common.{◌≡◌, ℕ, zero, suc, ◌+◌, ◌-◌, ◌<◌, ◌≤◌, List, [], ◌∷◌, ◌++◌, length, map, take, drop, get_or, refl, sym, ap, subst, ◌∙◌, append_assoc, arith}
+use Rattle.std.proofs.Common.{◌≡◌, ℕ, ℤ, pos, zero, suc, ◌+◌, ◌-◌, ◌<◌, ◌≤◌, List, [], ◌∷◌, ◌++◌, length, map, take, drop, get_or, refl, sym, ap, subst, ◌∙◌, append_assoc, arith}
 use Rattle.std.proofs.Math.Seq.{take-length}
 use Rattle.std.specs.Prelude.{Some, None, Result, Ok, Err, OnOk}
 use Rattle.std.specs.List.{join_with_byte, slice_get}
+use Rattle.std.specs.Int.{cast_signed, cast_unsigned, w64}
+use Rattle.std.proofs.lemmas.Int.{to_z_pos}
 use Rattle.std.proofs.lemmas.List.{append-nil, drop_all}
 use Rattle.fx_base.specs.declared.memory.NoMemory.{NoMemory}
 use Rattle.fx_text.specs.Written.{Keeps, spaced}
@@ -85,6 +87,19 @@ then_written out mid new front fields words one two =
     ∙ ap (λ text. out ++ text)
     (append_assoc front (spaced (fields ++ [])) (spaced words)
     ∙ ap (λ text. front ++ text) (ap (λ f. spaced f ++ spaced words) (append-nil fields) ∙ sym (spaced-append fields words)))
+
+-- a number that isn't negative, as it is read back from where it is stored
+pub stored : (z : ℤ) (n : ℕ) → z ≡ pos n → n < 9223372036854775808 → cast_signed w64 (cast_unsigned w64 z) ≡ pos n
+stored z n is small = subst (λ (y : ℤ). cast_signed w64 (cast_unsigned w64 y) ≡ pos n) (sym is) (to_z_pos w64 n small)
+
+-- words, or one word, behind a row of fields
+pub words_written : (out mid new front : List ℕ) (fields words : List (List ℕ)) → mid ≡ out ++ (front ++ spaced fields) → new ≡ mid ++ spaced words → new ≡ out ++ (front ++ spaced (fields ++ words))
+words_written out mid new front fields words one two =
+    two ∙ ap (λ text. text ++ spaced words) one ∙ append_assoc out (front ++ spaced fields) (spaced words)
+    ∙ ap (λ text. out ++ text) (append_assoc front (spaced fields) (spaced words) ∙ ap (λ text. front ++ text) (sym (spaced-append fields words)))
+
+pub word_written : (out mid new front : List ℕ) (fields : List (List ℕ)) (word : List ℕ) → mid ≡ out ++ (front ++ spaced fields) → new ≡ mid ++ 32 ∷ word → new ≡ out ++ (front ++ spaced (fields ++ word ∷ []))
+word_written out mid new front fields word one two = words_written out mid new front fields (word ∷ []) one (two ∙ ap (λ text. mid ++ text) (sym (append-nil (32 ∷ word))))
 
 -- what is written of a value is written of an equal one
 pub same_written : {X : Type 0} (text : X → List ℕ) (r : Result (Unit {0}) NoMemory) (out new : List ℕ) (x y : X) → x ≡ y → OnOk r (new ≡ out ++ text y) → OnOk r (new ≡ out ++ text x)

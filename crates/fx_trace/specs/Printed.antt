@@ -65,6 +65,7 @@ abbrev pub tail_words : Tail → List (List ℕ)
 tail_words tail.Nothing = []
 tail_words (tail.Seats list) = (lists.tail lists.Seats).words list.now
 tail_words (tail.Numbers list) = (lists.tail lists.Numbers).words list.now
+tail_words (tail.Values list) = (lists.tail lists.Numbers).words list.now
 tail_words (tail.Stamps list) = (lists.tail lists.Stamps).words list.now
 tail_words (tail.Elements list) = (lists.tail lists.Elements).words list.now
 tail_words (tail.Shares list) = (lists.tail lists.Shares).words list.now

@@ -78,8 +78,8 @@ impl Field<'_> {
     }
 }
 
-// A slot behind a space.
-fn put_slot(out: &mut Bytes, slot: Slot) -> Result<(), NoMemory>
+/// Prints a slot behind a space.
+pub fn put_slot(out: &mut Bytes, slot: Slot) -> Result<(), NoMemory>
     ensures ok { OnOk result (out.new ≡ out.old ++ 32 ∷ a_slot.spell slot) }
     ensures keeps { Keeps out.old out.new }
 {
@@ -87,8 +87,8 @@ fn put_slot(out: &mut Bytes, slot: Slot) -> Result<(), NoMemory>
     push_slot(out, slot)
 }
 
-// Slots, joined by commas, behind a space.
-fn put_slots(out: &mut Bytes, slots: &[Slot]) -> Result<(), NoMemory>
+/// Prints slots, joined by commas, behind a space.
+pub fn put_slots(out: &mut Bytes, slots: &[Slot]) -> Result<(), NoMemory>
     ensures ok { OnOk result (out.new ≡ out.old ++ 32 ∷ some_slots.spell slots.now) }
     ensures keeps { Keeps out.old out.new }
 {

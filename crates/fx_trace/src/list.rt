@@ -8,6 +8,7 @@ ghost use Rattle.fx_lines.specs.Lists.{a_share, an_element};
 
 use crate::field::put_seat;
 use fx_base::{Bytes, Elems, Ident, NoMemory, Proc, Seats, Sparse, Stamp, StampShares, Stamps};
+use fx_link::Values;
 use fx_text::{push_number, put_number, put_numbers, put_word};
 
 /// What ends a row, for printing: nothing, or the word `:` and a word for each entry of a list.
@@ -16,6 +17,7 @@ pub enum Tail<'a> {
     Nothing,
     Seats(&'a Seats),
     Numbers(&'a Elems),
+    Values(&'a Values),
     Stamps(&'a Stamps),
     Elements(&'a Sparse),
     Shares(&'a StampShares),
@@ -37,6 +39,7 @@ impl Tail<'_> {
             Tail::Nothing => Ok(()),
             Tail::Seats(seats) => put_seats(out, seats.as_slice()),
             Tail::Numbers(numbers) => put_numbers(out, numbers.as_slice()),
+            Tail::Values(values) => put_numbers(out, values.as_slice()),
             Tail::Stamps(stamps) => put_stamps(out, stamps.as_slice()),
             Tail::Elements(elements) => put_elements(out, elements),
             Tail::Shares(shares) => put_shares(out, shares),

@@ -1,16 +1,18 @@
 ghost use Rattle.std.specs.Prelude.{◌≡◌, ◌++◌, map, OnOk};
+ghost use Rattle.std.specs.Fmt.{signed_decimal};
 ghost use Rattle.fx_text.specs.Written.{Keeps, spaced};
 ghost use Rattle.fx_item.specs.declared.item.Item.TheVariants as Item;
+ghost use Rattle.fx_link.specs.declared.message.Message.TheVariants as Message;
 ghost use Rattle.fx_lines.specs.Items.{line_of};
 ghost use Rattle.fx_trace.specs.Printed.{holding_text, item_text, message_text, row_text, row_words, word_of};
 
-use crate::field::Field;
+use crate::field::{Field, put_slot, put_slots};
 use crate::list::Tail;
 use crate::rows::{item_rows, message_rows};
-use fx_base::{Bytes, Elems, Epoch, NoMemory, Proc};
+use fx_base::{Bytes, CallNo, Elems, Epoch, NoMemory, Proc};
 use fx_item::Item;
-use fx_link::{Held, Known, Message};
-use fx_text::put_word;
+use fx_link::{Held, Known, Message, Slot, Slots, Values};
+use fx_text::{put_numbers, put_word};
 
 /// Prints the line of an item, without a line end, at the end of `out`.
 ///
@@ -29,12 +31,7 @@ pub fn print_send(p: Proc, q: Proc, message: &Message, out: &mut Bytes) -> Resul
     ensures ok { OnOk result (out.new ≡ out.old ++ line_of (Item.Send p q message.now)) }
     ensures keeps { Keeps out.old out.new }
 {
-    put_row(
-        out,
-        b"send",
-        &[Field::Process(&p), Field::Process(&q)],
-        Tail::Nothing,
-    )?;
+    put_numbered(out, b"send", &[i64::from(p.0), i64::from(q.0)])?;
     put_message(out, message)
 }
 
@@ -43,12 +40,7 @@ pub fn print_delivery(p: Proc, q: Proc, message: &Message, out: &mut Bytes) -> R
     ensures ok { OnOk result (out.new ≡ out.old ++ line_of (Item.Deliver p q message.now)) }
     ensures keeps { Keeps out.old out.new }
 {
-    put_row(
-        out,
-        b"deliver",
-        &[Field::Process(&p), Field::Process(&q)],
-        Tail::Nothing,
-    )?;
+    put_numbered(out, b"deliver", &[i64::from(p.0), i64::from(q.0)])?;
     put_message(out, message)
 }
 
@@ -122,6 +114,47 @@ fn put_message(out: &mut Bytes, message: &Message) -> Result<(), NoMemory>
     ensures ok { OnOk result (out.new ≡ out.old ++ message_text message.now) }
     ensures keeps { Keeps out.old out.new }
 {
+    match message {
+        Message::Part { e, k, elems } => put_part(out, *e, *k, elems),
+        Message::Vote { e, k, slot } => put_vote(out, *e, *k, *slot),
+        Message::Est { e, k, r, slots } => put_estimate(out, *e, *k, *r, slots),
+        _ => put_any_message(out, message),
+    }
+}
+
+// The row of a part. Most messages are parts, votes and estimates.
+fn put_part(out: &mut Bytes, e: Epoch, k: CallNo, elems: &Values) -> Result<(), NoMemory>
+    ensures ok { OnOk result (out.new ≡ out.old ++ message_text (Message.Part e k elems.now)) }
+    ensures keeps { Keeps out.old out.new }
+{
+    put_numbered(out, b" part", &[i64::from(e.0), i64::from(k.0)])?;
+    Tail::Values(elems).put(out)
+}
+
+fn put_vote(out: &mut Bytes, e: Epoch, k: CallNo, slot: Slot) -> Result<(), NoMemory>
+    ensures ok { OnOk result (out.new ≡ out.old ++ message_text (Message.Vote e k slot)) }
+    ensures keeps { Keeps out.old out.new }
+{
+    put_numbered(out, b" vote", &[i64::from(e.0), i64::from(k.0)])?;
+    put_slot(out, slot)
+}
+
+fn put_estimate(out: &mut Bytes, e: Epoch, k: CallNo, r: u8, slots: &Slots) -> Result<(), NoMemory>
+    ensures ok { OnOk result (out.new ≡ out.old ++ message_text (Message.Est e k r slots.now)) }
+    ensures keeps { Keeps out.old out.new }
+{
+    put_numbered(
+        out,
+        b" est",
+        &[i64::from(e.0), i64::from(k.0), i64::from(r)],
+    )?;
+    put_slots(out, slots.as_slice())
+}
+
+fn put_any_message(out: &mut Bytes, message: &Message) -> Result<(), NoMemory>
+    ensures ok { OnOk result (out.new ≡ out.old ++ message_text message.now) }
+    ensures keeps { Keeps out.old out.new }
+{
     message_rows!(put_arms! { put_spaced_row, out, message, Message })
 }
 
@@ -175,6 +208,15 @@ fn put_spaced_row(
     put_word(out, word)?;
     put_fields(out, fields)?;
     tail.put(out)
+}
+
+// Numbers behind the bytes that begin a row.
+fn put_numbered(out: &mut Bytes, word: &[u8], numbers: &[i64]) -> Result<(), NoMemory>
+    ensures ok { OnOk result (out.new ≡ out.old ++ (word.now ++ spaced (map signed_decimal numbers.now))) }
+    ensures keeps { Keeps out.old out.new }
+{
+    out.append(word)?;
+    put_numbers(out, numbers)
 }
 
 fn put_fields(out: &mut Bytes, fields: &[Field]) -> Result<(), NoMemory>

@@ -11,6 +11,7 @@ use crate::pieces::Pieces;
 use crate::read::{Field, ReadItem, Row, bad_field};
 use crate::read_word::{is_word, read_each};
 use fx_base::{Bytes, Elems, NoMemory, Seats, Seq, Sparse, Stamp, StampShares, Stamps};
+use fx_link::Values;
 use std::alloc::Global;
 
 // The values behind the word `:`, where all that follows is right.
@@ -40,6 +41,19 @@ impl Row for Elems {
 
     fn read(alloc: Global, first: u8, words: &mut Pieces) -> Result<Self, ReadItem> {
         read_listed(alloc, words)?.ok_or(bad_field(first))
+    }
+}
+
+impl Row for Values {
+    ghost form = { list_of integer };
+
+    ghost width = { 1 };
+
+    fn read(alloc: Global, first: u8, words: &mut Pieces) -> Result<Self, ReadItem> {
+        match read_listed(alloc, words)? {
+            Some(values) => Ok(Values::of(alloc, values)?),
+            None => Err(bad_field(first)),
+        }
     }
 }
 

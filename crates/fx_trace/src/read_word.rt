@@ -328,7 +328,10 @@ impl Field for Slots {
     ghost form = { some_slots };
 
     fn read(alloc: Global, word: &[u8]) -> Result<Option<Self>, NoMemory> {
-        read_each(alloc, &mut Pieces::new(b',', word))
+        match read_each(alloc, &mut Pieces::new(b',', word))? {
+            Some(slots) => Ok(Some(Slots::of(alloc, slots)?)),
+            None => Ok(None),
+        }
     }
 }
 

@@ -44,7 +44,7 @@ macro_rules! message_rows {
         $arms! { { $($given)* }
             0 Join b"join" (e: Epoch, kind: JoinKind);
             1 Jest b"jest" (e: Epoch, r: Count, slots: Slots);
-            2 Part b"part" (e: Epoch, k: Call) elems: Numbers;
+            2 Part b"part" (e: Epoch, k: Call) elems: Values;
             3 Vote b"vote" (e: Epoch, k: Call, slot: Slot);
             4 Est b"est" (e: Epoch, k: Call, r: Count, slots: Slots);
             5 Share b"share" (e: Epoch, k: Call) shares: Shares;

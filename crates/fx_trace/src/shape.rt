@@ -7,7 +7,7 @@ pub use fx_base::{
     Stamp, StampShares as Shares, Stamps,
 };
 pub use fx_item::{Answer, Refusable as Statement};
-pub use fx_link::{Message, Slot, Slots};
+pub use fx_link::{Message, Slot, Slots, Values};
 
 pub type Count = u8;
 

@@ -359,9 +359,21 @@ impl World {
         ensures goes { Goes _ self.old self.new shown (K.state sink.old) (K.state sink.new) (noticing p.0 q.0) result }
         ensures of_all { IsOfSame self.old self.new }
     {
-        if !self.may_learn(p, q) {
-            return Ok(());
+        if self.may_learn(p, q) {
+            self.learn(p, q, shown, sink)
+        } else {
+            Ok(())
         }
+    }
+
+    // A process is told that another is lost, which was killed.
+    fn learn<K: Sink>(&mut self, p: Proc, q: Proc, shown: Shown, sink: &mut K) -> Result<(), RunEnd>
+        requires lost { p.0 < self.old.procs }
+        requires told { q.0 < self.old.procs }
+        requires may { (job : Job) (w : defined.World) → IsWorldOf job self.old w → may_learn (job_setup job) p.0 q.0 w ≡ true }
+        ensures goes { Goes _ self.old self.new shown (K.state sink.old) (K.state sink.new) (noticing p.0 q.0) result }
+        ensures of_all { IsOfSame self.old self.new }
+    {
         self.teller.tell(&Item::Told { p, q }, shown, sink)?;
         self.links.close_from(p, q);
         self.posts[usize::from(q.0)].notice(p);

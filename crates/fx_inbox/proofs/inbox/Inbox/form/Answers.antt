@@ -1,4 +1,5 @@
-use Rattle.std.proofs.Common.{◌≡◌, ◌∙◌, ℕ, Some, None, length, subst, sym, ap, refl, arith}
+use Rattle.fx_link.specs.declared.slot.Slot.{Slot}
+use Rattle.std.proofs.Common.{◌≡◌, ◌∙◌, ℕ, List, Some, None, length, subst, sym, ap, refl, arith}
 use Rattle.fx_ballot.specs.declared.poll.Poll.TheVariants as poll
 use Rattle.fx_ballot.specs.Names.{seat_at}
 use Rattle.fx_ballot.specs.Turn.{slot_of, slots_of}
@@ -24,5 +25,5 @@ returns-clause-takes c = λ n know part.
     let b : Ballot = ballot_of c.args.ballot.now in
     let all : c.loop-member.member-index ≡ length b.members = omega arith in
     let known : slots_of (seats b n) (length b.members) ≡ Some c.loop-member.slots = ap (λ (k : ℕ). slots_of (seats b n) k) (sym all) ∙ c.loop-member.invariant n know part in
-    subst (λ (p : Phase). IsTurn (turn_in b n (phase_of p)) poll.Moved (phase.Round 0 c.loop-member.slots)) (sym c.requires.voting)
-    (form_moves b n c.loop-member.slots known)
+    subst (λ (p : Phase). IsTurn (turn_in b n (phase_of p)) poll.Moved (phase.Round 0 c.in_ok-of.field-0)) (sym c.requires.voting)
+    (form_moves b n c.in_ok-of.field-0 (known ∙ ap (λ (slots : List Slot). Some slots) (sym c.in_ok-of.ensures)))

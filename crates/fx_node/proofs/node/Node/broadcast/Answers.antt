@@ -12,7 +12,7 @@ returns-clause-says c = rw (← c.self.view_is, ← c.loop-member.invariant.same
 pub returns-clause-to_processes : goal.returns-clause-to_processes
 returns-clause-to_processes c =
     let bound = processes c.args.self.now in
-    let members : All (λ q. q < processes c.args.self.now) c.as_slice-member-items.result.now = rw (← c.self.view_is, c.as_slice-member-items.ensures) c.self.invariant.members in
+    let members : All (λ q. q < processes c.args.self.now) c.as_slice-members.result.now = rw (← c.self.view_is, c.as_slice-members.ensures) c.self.invariant.members in
     on_ok c.say.result (All (λ (x : Proc × Message). x.0.0 < processes c.args.self.now) c.args.sends.now → All (λ (x : Proc × Message). x.0.0 < processes c.args.self.now) c.loop-member.sends)
     (λ were. rw c.loop-member.invariant.sent
-    (told_below bound c.args.self.now.me (take c.loop-member.member-index c.as_slice-member-items.result.now) c.args.message c.args.sends.now (All-take (λ q. q < bound) c.loop-member.member-index c.as_slice-member-items.result.now members) were))
+    (told_below bound c.args.self.now.me (take c.loop-member.member-index c.as_slice-members.result.now) c.args.message c.args.sends.now (All-take (λ q. q < bound) c.loop-member.member-index c.as_slice-members.result.now members) were))

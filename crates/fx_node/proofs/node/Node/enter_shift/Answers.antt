@@ -17,4 +17,4 @@ returns-clause-steps c = λ job n place state rest is at.
     let to : c.target_of-target.result ≡ target_of (length c.args.self.now.comm) c.args.by own =
     c.target_of-target.ensures ∙ ap (λ (k : ℕ). target_of k c.args.by own) (c.size.ensures.size ∙ ap (λ (s : Standing). length s.comm) c.self.view_is) in
     enters_shift_there job c.args.self.now c.enter.new.self n place c.args.by c.args.elements state rest c.in-Some.next own c.target_of-target.result c.args.sends.now c.enter.new.sends c.args.items.now c.push.new.self
-    is c.requires.walking at next there to c.in_ok-enter.ensures.same c.in_ok-enter.ensures.enters c.in_ok-enter.ensures.sends (rw (← c.self.view_is) (rw c.in_ok-copy.ensures at c.in_ok-push.ensures.ok))
+    is c.requires.walking at next there to c.in_ok-enter.ensures.same c.in_ok-enter.ensures.enters (rw c.in_ok-values.ensures at c.in_ok-enter.ensures.sends) (rw (← c.self.view_is) (rw c.in_ok-copy.ensures at c.in_ok-push.ensures.ok))

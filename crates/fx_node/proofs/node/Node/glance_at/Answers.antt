@@ -1,49 +1,22 @@
-use Rattle.std.proofs.Common.{◌≡◌, ◌||◌, Bool, None, Some, true, false, ℕ, List, length, ap, sym, subst, ◌∙◌, refl}
-use Rattle.std.specs.Prelude.{if◌then◌else◌, is_some}
-use Rattle.std.specs.Option.{option_copied}
-use Rattle.fx_comm.specs.Seats.{Seat}
-use Rattle.fx_machine.specs.Gathering.{due_from}
-use Rattle.fx_machine.specs.Nodes.{my_place, size}
+use Rattle.std.proofs.Common.{◌||◌, Bool, sym, subst, ap, ◌∙◌}
+use Rattle.std.specs.Prelude.{if◌then◌else◌}
 use Rattle.fx_machine.specs.Reading.{has_left}
-use Rattle.fx_node.proofs.Begun.{my_place_is}
 use Rattle.fx_node.proofs.Calling.{proc_there}
-use Rattle.fx_node.proofs.Glancing.{another_is_there, own_is_there, without}
+use Rattle.fx_node.proofs.Glancing.{without}
 use Rattle.fx_node.specs.Glancing.{IsSeenAt}
 use Rattle.fx_node.specs.declared.glance.Glance.{Glance}
 use Rattle.fx_node.specs.declared.glance.Glance.TheVariants as glance
 use Rattle.fx_node.proofs.node.Node.glance_at.Goals as goal
 
-pub returns-then-one-own : goal.returns-then-one-own
-returns-then-one-own c = λ job n is carried.
-    own_is_there n c.args.wanted.now c.args.one.0 (c.if-one-own.true ∙ sym (my_place_is n c.args.self.now.comm c.args.self.now.me c.args.own.0 is.comm is.me c.requires.there))
+pub returns-then-is_there : goal.returns-then-is_there
+returns-then-is_there c = λ job n is carried. sym (c.is_there.ensures job n is carried) ∙ c.if-is_there.true
 
-pub returns-in-Some : goal.returns-in-Some
-returns-in-Some c = λ job n is carried.
+pub returns : goal.returns
+returns c = λ job n is carried.
     let w = rw (← c.self.view_is) at is in
     let who = c.proc_at-who.result.0 in
     let asked = c.args.wanted.now in
-    let counted : c.due-due.result ≡ due_from asked (size n) (my_place n) c.args.one.0 =
-    c.due-due.ensures
-    ∙ ap (λ (k : ℕ). due_from asked k c.args.own.0 c.args.one.0) (c.size.ensures.size ∙ ap (λ (l : List Seat). length l) (sym w.comm))
-    ∙ ap (λ (k : ℕ). due_from asked (size n) k c.args.one.0) (sym (my_place_is n c.args.self.now.comm c.args.self.now.me c.args.own.0 is.comm is.me c.requires.there)) in
-    another_is_there n asked c.args.one.0 c.due-due.result who true
-    (λ same. c.if-one-own.false (same ∙ my_place_is n c.args.self.now.comm c.args.self.now.me c.args.own.0 is.comm is.me c.requires.there)) counted
-    (sym (proc_there n c.self.inside.comm c.args.one.0 c.proc_at-who.result w.comm c.proc_at-who.ensures.there))
-    (ap is_some (sym (c.part_of.ensures n w.knows w.epoch w.calls)) ∙ ap (λ o. is_some (option_copied o)) c.in-Some.is)
-
-pub returns-in-None : goal.returns-in-None
-returns-in-None c = λ job n is carried.
-    let w = rw (← c.self.view_is) at is in
-    let who = c.proc_at-who.result.0 in
-    let asked = c.args.wanted.now in
-    let counted : c.due-due.result ≡ due_from asked (size n) (my_place n) c.args.one.0 =
-    c.due-due.ensures
-    ∙ ap (λ (k : ℕ). due_from asked k c.args.own.0 c.args.one.0) (c.size.ensures.size ∙ ap (λ (l : List Seat). length l) (sym w.comm))
-    ∙ ap (λ (k : ℕ). due_from asked (size n) k c.args.one.0) (sym (my_place_is n c.args.self.now.comm c.args.self.now.me c.args.own.0 is.comm is.me c.requires.there)) in
     let at = sym (proc_there n c.self.inside.comm c.args.one.0 c.proc_at-who.result w.comm c.proc_at-who.ensures.there) in
-    let absent = another_is_there n asked c.args.one.0 c.due-due.result who false
-    (λ same. c.if-one-own.false (same ∙ my_place_is n c.args.self.now.comm c.args.self.now.me c.args.own.0 is.comm is.me c.requires.there)) counted at
-    (ap is_some (sym (c.part_of.ensures n w.knows w.epoch w.calls)) ∙ ap (λ o. is_some (option_copied o)) c.in-None.is) in
     subst (λ (seen : Glance). IsSeenAt seen n asked c.args.one.0)
-    (sym (c.glance_without.ensures job n is ∙ ap (λ (b : Bool). if b || has_left n who then glance.Unclear else glance.Waiting) (c.is_lost-lost.ensures n w.knows)))
-    (without n asked c.args.one.0 who at absent)
+    (sym (c.glance_without.ensures job n is ∙ ap (λ (b : Bool). if b || has_left n who then glance.Unclear else glance.Waiting) (c.is_lost.ensures n w.knows)))
+    (without n asked c.args.one.0 who at (sym (c.is_there.ensures job n is carried) ∙ c.if-is_there.false))

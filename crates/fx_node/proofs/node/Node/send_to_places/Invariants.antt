@@ -7,7 +7,7 @@ use Rattle.fx_node.proofs.node.Node.send_to_places.Given as goal
 
 abbrev pub invariant-loop-place : goal.invariant-loop-place
 invariant-loop-place l = record {
-  sent : l.sends ++ to_seats l.fn.self.me (λ x. message.Part (epoch_no l.fn.self.epoch) l.fn.call (share_of l.fn.only l.fn.values x)) l.place (drop l.place l.seat-items)
-      ≡ l.fn.sends ++ to_seats l.fn.self.me (λ x. message.Part (epoch_no l.fn.self.epoch) l.fn.call (share_of l.fn.only l.fn.values x)) 0 l.seat-items;
+  sent : l.sends ++ to_seats l.fn.self.me (λ x. message.Part (epoch_no l.fn.self.epoch) l.fn.call (share_of l.fn.only l.fn.values x)) l.place (drop l.place l.seats)
+      ≡ l.fn.sends ++ to_seats l.fn.self.me (λ x. message.Part (epoch_no l.fn.self.epoch) l.fn.call (share_of l.fn.only l.fn.values x)) 0 l.seats;
   values : l.values ≡ l.fn.values;
 }

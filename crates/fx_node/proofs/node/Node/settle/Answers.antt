@@ -2,11 +2,9 @@ use Rattle.std.proofs.Common.{◌≡◌, ◌∙◌, ℕ, length, Some, ap, arith
 use Rattle.fx_coll.specs.declared.poll.CollPoll.TheVariants as poll
 use Rattle.fx_node.specs.declared.node.Moved.TheVariants as moved
 use Rattle.fx_node.proofs.Calling.{gathers_so, proc_there, waits_so}
-use Rattle.fx_flow.specs.Flowing.{AsksFor, DoesRest}
 use Rattle.fx_machine.specs.Waits.{ByLeaving, ByLoss, returns_error}
 use Rattle.fx_node.specs.Standing.{Standing}
 use Rattle.fx_node.specs.Stepping.{Steps}
-use Rattle.fx_walk.specs.Walk.{Walk}
 use Rattle.fx_node.proofs.Telling.{if_ok}
 use Rattle.fx_node.proofs.node.Node.settle.Goals as goal
 

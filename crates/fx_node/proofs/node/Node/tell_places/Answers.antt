@@ -13,13 +13,13 @@ use Rattle.fx_node.proofs.node.Node.tell_places.Goals as goal
 use Rattle.fx_node.proofs.node.Node.tell_places.Goals.{then-ne+in_ok-copy+in_ok-push, else-ne}
 
 pub loop-seat-init : goal.loop-seat-init
-loop-seat-init c = record { sent = refl; same = refl }
+loop-seat-init c = record { sent = ap (λ (l : List (Proc × Message)). l ++ to_seats c.args.self.now.me (λ x. c.args.message) 0 c.as_slice-seats.result.now) c.reserve.ensures; same = refl }
 
 pub loop-seat-preserved : goal.loop-seat-preserved
 loop-seat-preserved c =
     let me : ℕ = c.args.self.now.me in
     let meant : ℕ → Message = λ x. c.args.message in
-    let items : List Seat = c.as_slice-seat-items.result.now in
+    let items : List Seat = c.as_slice-seats.result.now in
     let k : ℕ = c.loop-seat.seat-index in
     let mine : c.self.inside.me.0 ≡ me = ap (λ (s : Standing). s.me) c.self.view_is in
     elim c.if-ne.branch [
@@ -41,12 +41,12 @@ loop-seat-preserved c =
 pub returns-clause-sends : goal.returns-clause-sends
 returns-clause-sends c =
     let meant : ℕ → Message = λ x. c.args.message in
-    let items : List Seat = c.as_slice-seat-items.result.now in
+    let items : List Seat = c.as_slice-seats.result.now in
     on_ok c.say.result _
     (all_sent c.args.self.now.me meant items c.loop-seat.seat-index c.loop-seat.sends _ c.loop-seat-test.false c.loop-seat.invariant.sent
     ∙ ap (λ (l : List (Proc × Message)). c.args.sends.now ++ l)
     (told_seats c.args.self.now.me c.args.message items 0
-    ∙ ap (λ (l : List Seat). broadcast c.args.self.now.me (procs_of l) c.args.message) (c.as_slice-seat-items.ensures ∙ c.seats.ensures ∙ ap (λ (s : Standing). s.comm) c.self.view_is)))
+    ∙ ap (λ (l : List Seat). broadcast c.args.self.now.me (procs_of l) c.args.message) (c.as_slice-seats.ensures ∙ c.seats.ensures ∙ ap (λ (s : Standing). s.comm) c.self.view_is)))
 
 pub returns-clause-says : goal.returns-clause-says
 returns-clause-says c = rw (← c.self.view_is, ← c.loop-seat.invariant.same) c.say.ensures.ok
@@ -55,10 +55,10 @@ pub returns-clause-to_processes : goal.returns-clause-to_processes
 returns-clause-to_processes c =
     let bound = processes c.args.self.now in
     let meant : ℕ → Message = λ x. c.args.message in
-    let items : List Seat = c.as_slice-seat-items.result.now in
+    let items : List Seat = c.as_slice-seats.result.now in
     let sent : c.loop-seat.sends ≡ c.args.sends.now ++ to_seats c.args.self.now.me meant 0 items =
     all_sent c.args.self.now.me meant items c.loop-seat.seat-index c.loop-seat.sends _ c.loop-seat-test.false c.loop-seat.invariant.sent in
-    let below : All (λ (s : Seat). s.1.0 < processes c.args.self.now) items = rw (← c.self.view_is, c.as_slice-seat-items.ensures, c.seats.ensures) c.self.invariant.seats in
+    let below : All (λ (s : Seat). s.1.0 < processes c.args.self.now) items = rw (← c.self.view_is, c.as_slice-seats.ensures, c.seats.ensures) c.self.invariant.seats in
     on_ok c.say.result (All (λ (x : Proc × Message). x.0.0 < processes c.args.self.now) c.args.sends.now → All (λ (x : Proc × Message). x.0.0 < processes c.args.self.now) c.loop-seat.sends)
     (λ were. subst (λ (l : List (Proc × Message)). All (λ (x : Proc × Message). x.0.0 < processes c.args.self.now) l) (sym sent)
     (sent_below bound c.args.self.now.me meant items c.args.sends.now below were))
